@@ -1,0 +1,15 @@
+pub mod Faults
+pub mod Types
+pub mod Signature
+pub mod Number
+pub mod Text
+pub mod Value
+pub mod Message
+pub mod Reader
+pub mod ReadValue
+pub mod ReadMessage
+pub mod Header
+pub mod FixedValue
+pub mod Writers
+pub mod Reads
+pub mod Places
