@@ -16,3 +16,4 @@ pub mod Utf8
 pub mod ValueDemands
 pub mod ValueLocal
 pub mod ValueMeets
+pub mod Rules
