@@ -8,6 +8,7 @@ pub mod MessageMeets
 pub mod MessageRounds
 pub mod NumberLaws
 pub mod Paths
+pub mod PlaceLaws
 pub mod Plain
 pub mod Rounds
 pub mod SignatureLaws

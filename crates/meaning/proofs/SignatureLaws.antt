@@ -166,15 +166,15 @@ run-spell (c ∷ cs) k j h = go (step (find toks c) k) refl (λ i q. run-spell c
     go (bad n) e ih b = not-bad n j (ap (λ (x : Step). next x cs) (sym e) ∙ sym (run-cons c cs k) ∙ h)
 
 -- what the pass builds has the shape that a type must have
-and-left : (a b : Bool) → T (a && b) → T a
+pub and-left : (a b : Bool) → T (a && b) → T a
 and-left true b h = tt
 and-left false b h = h
 
-and-right : (a b : Bool) → T (a && b) → T b
+pub and-right : (a b : Bool) → T (a && b) → T b
 and-right true b h = h
 and-right false b h = absurd h
 
-and-both : (a b : Bool) → T a → T b → T (a && b)
+pub and-both : (a b : Bool) → T a → T b → T (a && b)
 and-both true b h k = k
 and-both false b h k = h
 

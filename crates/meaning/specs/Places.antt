@@ -5,7 +5,7 @@ use mathlib.Core.List.{List, [], _∷_, _++_}
 use mathlib.Core.Path.{_≡_}
 use lib.ListN.{length, take, drop}
 use lib.Dec.{T}
-use Rattle.meaning.specs.Types.{Base, Ty}
+use Rattle.meaning.specs.Types.{Base, Ty, Tys, one, more}
 use Rattle.meaning.specs.Signature.{code, isKey, spell, spellAll, shape}
 
 -- the bytes xs stand in s from p on, and e is the place after them
@@ -28,6 +28,11 @@ pub record Typed (s : List ℕ) (p : ℕ) : Type 0 where
 unfoldable pub shapeAll : List Ty → Bool
 shapeAll [] = true
 shapeAll (t ∷ ts) = shape t && shapeAll ts
+
+-- a struct's field types as a list, since what is left of them may be none
+abbrev pub listOf : Tys → List Ty
+listOf (one e) = e ∷ []
+listOf (more e fs) = e ∷ listOf fs
 
 -- the types of a struct's fields that are left from p on, with the bracket that ends them, and e is the place after that
 pub record FieldsAt (ts : List Ty) (s : List ℕ) (p e : ℕ) : Type 0 where
