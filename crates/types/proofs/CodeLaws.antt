@@ -1,0 +1,98 @@
+-- Alignments and sizes by code are those of the types: what callers of `align` and `size` cite.
+use Prim.Native.Nat.{ℕ, _<_}
+use mathlib.Core.Path.{_≡_, refl, ap, _∙_}
+use mathlib.Core.Bool.{Bool, true, false}
+use mathlib.Core.List.{[], _∷_}
+use lib.Dec.{T, lit<}
+use lib.ListN.{getD}
+use Rattle.meaning.specs.Types.{Fix, byte, bool, i16, u16, i32, u32, i64, u64, dbl, fd, Base, fix, str, path, sig, Form, inArray, loose, Ty, base, arr, dict, struct, variant, size, alignBase, align}
+use Rattle.meaning.specs.Signature.{code, codeFix, spell, notLoose, Tok, isBase, isArr, isVar, isOpen, isClose, isCurl, isUncurl, isBad, toks, find}
+use Rattle.meaning.specs.Writers.{isAlignment}
+use Rattle.meaning.proofs.SignatureLaws.{find-base}
+use Rattle.types.specs.Codes.{alignTok, sizeTok, alignCode, sizeCode}
+
+pub align-base : (c : Base) → alignCode (code c) ≡ alignBase c
+unfolding alignCode
+align-base c = ap alignTok (find-base c)
+
+pub size-fix : (c : Fix) → sizeCode (codeFix c) ≡ size c
+unfolding sizeCode
+size-fix c = ap sizeTok (find-base (fix c))
+
+pub align-array : alignCode 97 ≡ 4
+unfolding alignCode find
+align-array = refl
+
+pub align-variant : alignCode 118 ≡ 1
+unfolding alignCode find
+align-variant = refl
+
+pub align-struct : alignCode 40 ≡ 8
+unfolding alignCode find
+align-struct = refl
+
+-- a type's alignment is that of its first code; only a dict alone, whose first code is its bracket, is outside the table
+pub align-first : (t : Ty) → T (notLoose t) → alignCode (getD (spell t) 0 0) ≡ align t
+unfolding spell
+align-first (base c) h = align-base c
+align-first (arr e) h = align-array
+align-first (dict inArray k e) h = align-array
+align-first (dict loose k e) h = absurd h
+align-first (struct fs) h = align-struct
+align-first variant h = align-variant
+
+pub size-is-alignment : (c : Fix) → T (isAlignment (size c))
+size-is-alignment byte = tt
+size-is-alignment bool = tt
+size-is-alignment i16 = tt
+size-is-alignment u16 = tt
+size-is-alignment i32 = tt
+size-is-alignment u32 = tt
+size-is-alignment i64 = tt
+size-is-alignment u64 = tt
+size-is-alignment dbl = tt
+size-is-alignment fd = tt
+
+pub base-is-alignment : (c : Base) → T (isAlignment (alignBase c))
+base-is-alignment (fix c) = size-is-alignment c
+base-is-alignment str = tt
+base-is-alignment path = tt
+base-is-alignment sig = tt
+
+-- every type is aligned to 1, 2, 4 or 8
+pub is-alignment : (t : Ty) → T (isAlignment (align t))
+is-alignment (base c) = base-is-alignment c
+is-alignment (arr e) = tt
+is-alignment (dict f k e) = tt
+is-alignment (struct fs) = tt
+is-alignment variant = tt
+
+-- a size is one hex digit
+fix-small : (c : Fix) → size c < 16
+fix-small byte = lit< tt
+fix-small bool = lit< tt
+fix-small i16 = lit< tt
+fix-small u16 = lit< tt
+fix-small i32 = lit< tt
+fix-small u32 = lit< tt
+fix-small i64 = lit< tt
+fix-small u64 = lit< tt
+fix-small dbl = lit< tt
+fix-small fd = lit< tt
+
+tok-small : (k : Tok) → sizeTok k < 16
+tok-small (isBase (fix c)) = fix-small c
+tok-small (isBase str) = lit< tt
+tok-small (isBase path) = lit< tt
+tok-small (isBase sig) = lit< tt
+tok-small isArr = lit< tt
+tok-small isVar = lit< tt
+tok-small isOpen = lit< tt
+tok-small isClose = lit< tt
+tok-small isCurl = lit< tt
+tok-small isUncurl = lit< tt
+tok-small isBad = lit< tt
+
+pub size-small : (x : ℕ) → sizeCode x < 16
+unfolding sizeCode
+size-small x = tok-small (find toks x)

@@ -1,0 +1,3 @@
+-- The table's rule, and what callers want of alignments and sizes by code.
+pub mod Rule
+pub mod CodeLaws

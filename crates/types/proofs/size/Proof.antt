@@ -1,0 +1,18 @@
+-- The low hex digit of the table's entry.
+use native.Mathlib.Omega.{arith}
+use borrow.Author.Needs.{needs}
+use Rattle.types.proofs.CodeLaws.{size-small}
+use Rattle.types.proofs.size.Statement.{statement}
+use Rattle.types.proofs.size.Tie as tie
+
+entry-requires : tie.Need-entry-requires
+entry-requires c κs = search needs
+
+cast-result : tie.Need-cast-result
+cast-result c = search needs
+
+returns : tie.Need-returns
+returns c = omega (arith, c .entry .ensures, size-small (c .before .args .code))
+
+pub size-spec : {M : Type 1} → statement M
+size-spec = tie.close (tie.spec entry-requires cast-result returns)
