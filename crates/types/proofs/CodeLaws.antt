@@ -1,12 +1,9 @@
 -- Alignments and sizes by code are those of the types: what callers of `align` and `size` cite.
-use Prim.Native.Nat.{ℕ, _<_}
-use mathlib.Core.Path.{_≡_, refl, ap, _∙_}
-use mathlib.Core.Bool.{Bool, true, false}
-use mathlib.Core.List.{[], _∷_}
-use lib.Dec.{T, lit<}
+use mathlib.Core.Path.{_≡_, refl, ap}
+use lib.Dec.{T}
 use lib.ListN.{getD}
 use Rattle.meaning.specs.Types.{Fix, byte, bool, i16, u16, i32, u32, i64, u64, dbl, fd, Base, fix, str, path, sig, Form, inArray, loose, Ty, base, arr, dict, struct, variant, size, alignBase, align}
-use Rattle.meaning.specs.Signature.{code, codeFix, spell, notLoose, Tok, isBase, isArr, isVar, isOpen, isClose, isCurl, isUncurl, isBad, toks, find}
+use Rattle.meaning.specs.Signature.{code, codeFix, spell, notLoose, find}
 use Rattle.meaning.specs.Writers.{isAlignment}
 use Rattle.meaning.proofs.SignatureLaws.{find-base}
 use Rattle.types.specs.Codes.{alignTok, sizeTok, alignCode, sizeCode}
@@ -66,33 +63,3 @@ is-alignment (arr e) = tt
 is-alignment (dict f k e) = tt
 is-alignment (struct fs) = tt
 is-alignment variant = tt
-
--- a size is one hex digit
-fix-small : (c : Fix) → size c < 16
-fix-small byte = lit< tt
-fix-small bool = lit< tt
-fix-small i16 = lit< tt
-fix-small u16 = lit< tt
-fix-small i32 = lit< tt
-fix-small u32 = lit< tt
-fix-small i64 = lit< tt
-fix-small u64 = lit< tt
-fix-small dbl = lit< tt
-fix-small fd = lit< tt
-
-tok-small : (k : Tok) → sizeTok k < 16
-tok-small (isBase (fix c)) = fix-small c
-tok-small (isBase str) = lit< tt
-tok-small (isBase path) = lit< tt
-tok-small (isBase sig) = lit< tt
-tok-small isArr = lit< tt
-tok-small isVar = lit< tt
-tok-small isOpen = lit< tt
-tok-small isClose = lit< tt
-tok-small isCurl = lit< tt
-tok-small isUncurl = lit< tt
-tok-small isBad = lit< tt
-
-pub size-small : (x : ℕ) → sizeCode x < 16
-unfolding sizeCode
-size-small x = tok-small (find toks x)

@@ -5,7 +5,7 @@ use mathlib.Core.Bool.{Bool, true, false, cond, _&&_}
 use mathlib.Core.List.{List, [], _∷_}
 use mathlib.Core.Logic.{_⊎_, inl, inr}
 use native.Mathlib.Omega.{arith}
-use lib.Dec.{T, eqb, ltb, eqb→eq}
+use lib.Dec.{T, eqb, ltb, eqb→eq, ltb→lt}
 use lib.ListN.{getD}
 use borrow.Author.Tests.{ltb-true, ltb-false}
 use Rattle.types.specs.Codes.{alignCode, sizeCode}
@@ -56,3 +56,11 @@ right x = eqb (tableAt x) (alignCode x * 16 + sizeCode x)
 pub rule : (x : ℕ) → x < 256 → tableAt x ≡ alignCode x * 16 + sizeCode x
 unfolding entries tableAt right passes alignCode sizeCode find
 rule x h = eqb→eq (tableAt x) (alignCode x * 16 + sizeCode x) (passed right 256 tt x h)
+
+-- a size is one hex digit
+small : ℕ → Bool
+small x = ltb (sizeCode x) 16
+
+pub size-small : (x : ℕ) → x < 256 → sizeCode x < 16
+unfolding small passes sizeCode find
+size-small x h = ltb→lt (sizeCode x) 16 (passed small 256 tt x h)

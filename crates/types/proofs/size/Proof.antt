@@ -1,7 +1,7 @@
 -- The low hex digit of the table's entry.
 use native.Mathlib.Omega.{arith}
 use borrow.Author.Needs.{needs}
-use Rattle.types.proofs.CodeLaws.{size-small}
+use Rattle.types.proofs.Rule.{size-small}
 use Rattle.types.proofs.size.Statement.{statement}
 use Rattle.types.proofs.size.Tie as tie
 
@@ -12,7 +12,7 @@ cast-result : tie.Need-cast-result
 cast-result c = search needs
 
 returns : tie.Need-returns
-returns c = omega (arith, c .entry .ensures, size-small (c .before .args .code))
+returns c = omega (arith, c .entry .ensures, size-small (c .before .args .code) (omega arith))
 
 pub size-spec : {M : Type 1} → statement M
 size-spec = tie.close (tie.spec entry-requires cast-result returns)
