@@ -5,12 +5,10 @@ pub mod MessageCases
 pub mod MessageDemands
 pub mod MessageLocal
 pub mod MessageMeets
-pub mod MessageRounds
 pub mod NumberLaws
 pub mod Paths
 pub mod PlaceLaws
 pub mod Plain
-pub mod Rounds
 pub mod SignatureLaws
 pub mod StarredCases
 pub mod Utf8
@@ -18,3 +16,5 @@ pub mod ValueDemands
 pub mod ValueLocal
 pub mod ValueMeets
 pub mod Rules
+pub mod Grows
+pub mod Loop

@@ -417,3 +417,20 @@ cut-short {A} r lr b off v e m h k lo hi = go (short (r (take m b) off)) refl
         let k2 : r b off ≡ r (take m b) off = rw take-append-drop at k1 in
         let g2 = lr .bound (take m b) off v e o (sym k2 ∙ k) in
         absurd (omega arith)
+
+-- a refusal says which one it is, whatever would have been read
+pub fault-inj : {A : Type 0} (x y : Refusal) → _≡_ {A = Res A} (fault x) (fault y) → x ≡ y
+fault-inj x y h = cc
+
+pub ret-no-fault : {A X : Type 0} (v : A) (b : List ℕ) (off : ℕ) (x : Refusal) → ret v b off ≡ fault x → X
+unfolding ret
+ret-no-fault v b off x h = absurd (let z : _≡_ {A = ℕ} 0 1 = cc in omega arith)
+
+-- what follows a reader may be changed for what refuses alike
+pub refuse-alike : {A B C : Type 0} (r : R A) (f : A → R B) (g : A → R C) (b : List ℕ) (off : ℕ) (x : Refusal) → (r >>= f) b off ≡ fault x
+    → ((v : A) (e : ℕ) → f v b e ≡ fault x → g v b e ≡ fault x) → (r >>= g) b off ≡ fault x
+refuse-alike {A} {B} {C} r f g b off x h k = go (bind-is r f b off)
+  where
+    go : Ran r f b off → (r >>= g) b off ≡ fault x
+    go (ran v e p z) = bind-got r g b off v e p ∙ k v e (sym z ∙ h)
+    go (stopped y p z) = bind-fault r g b off y p ∙ ap (λ (y : Refusal). fault y) (fault-inj y x (sym z ∙ h))

@@ -83,7 +83,7 @@ unfolding elements
 elements-full n w r lr = bind-full here (λ f. check (eqb (n % w) 0) NotEnoughBytes f >> many n r) (here-local .bound)
     (λ f. bind-full (check (eqb (n % w) 0) NotEnoughBytes f) (λ z. many n r) (check-local (eqb (n % w) 0) NotEnoughBytes f .bound) (λ z. many-full n r (lr .bound)))
 
-contents-local : {A : Type 0} (a n w : ℕ) (r : R A) → Local r → Local (ahead n (padding a >> within n (elements n w r)))
+pub contents-local : {A : Type 0} (a n w : ℕ) (r : R A) → Local r → Local (ahead n (padding a >> within n (elements n w r)))
 contents-local a n w r lr = ahead-local n (padding a >> within n (elements n w r))
     (bind-local (padding a) (λ z. within n (elements n w r)) (padding-local a) (λ z. within-local n (elements n w r) (elements-bounded n w r lr) (elements-full n w r lr)))
     (λ b off v e h k.
