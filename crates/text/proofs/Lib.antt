@@ -1,0 +1,5 @@
+pub mod Table
+pub mod Classes
+pub mod Scans
+pub mod Names
+pub mod Strings

@@ -1,0 +1,25 @@
+-- Plain bytes change nothing of the answer; what follows them is walked.
+use Prim.Native.Nat.{ℕ}
+use mathlib.Core.Path.{ap, sym, _∙_}
+use native.Mathlib.Omega.{arith}
+use lib.ListN.{drop}
+use Rattle.text.specs.Verdict.{textOf}
+use Rattle.text.proofs.Scans.{plain-le, plain-skip, plain-whole}
+use borrow.Author.Needs.{needs}
+use Rattle.text.proofs.check_text.Statement.{statement}
+use Rattle.text.proofs.check_text.Tie as tie
+
+plain-bytes-requires : tie.Need-plain-bytes-requires
+plain-bytes-requires c κs = search needs
+
+returns : tie.Need-returns
+returns c = plain-whole _ (sym (c .before .plain-bytes .ensures) ∙ c .if1 .taken)
+
+walk-requires : tie.Need-walk-requires
+walk-requires c κs = omega (arith, c .before .plain-bytes .ensures, plain-le (c .before .before .before .args .s .now))
+
+returns-2 : tie.Need-returns-2
+returns-2 c = c .walk .ensures ∙ ap (λ (n : ℕ). textOf (drop n (c .before .before .before .before .args .s .now))) (c .before .before .plain-bytes .ensures) ∙ sym (plain-skip _)
+
+pub check-text-spec : {M : Type 1} → statement M
+check-text-spec = tie.close (tie.spec plain-bytes-requires returns walk-requires returns-2)
