@@ -2,7 +2,7 @@
 use mathlib.Core.Path.{_≡_, refl, ap}
 use lib.Dec.{T}
 use lib.ListN.{getD}
-use Rattle.meaning.specs.Types.{Fix, byte, bool, i16, u16, i32, u32, i64, u64, dbl, fd, Base, fix, str, path, sig, Form, inArray, loose, Ty, base, arr, dict, struct, variant, size, alignBase, align}
+use Rattle.meaning.specs.Types.{Fix, byte, bool, i16, u16, i32, u32, i64, u64, dbl, fd, Base, fix, str, path, sig, inArray, loose, Ty, base, arr, dict, struct, variant, size, alignBase, align}
 use Rattle.meaning.specs.Signature.{code, codeFix, spell, notLoose, find}
 use Rattle.meaning.specs.Writers.{isAlignment}
 use Rattle.meaning.proofs.SignatureLaws.{find-base}

@@ -29,11 +29,11 @@ last k n h = go (ltb k n) refl
     go true e = inl (ltb-true k n e)
     go false e = inr (omega (arith, ltb-false k n e))
 
-and-left : (a b : Bool) → T (a && b) → T a
+pub and-left : (a b : Bool) → T (a && b) → T a
 and-left true b h = tt
 and-left false b h = h
 
-and-right : (a b : Bool) → T (a && b) → T b
+pub and-right : (a b : Bool) → T (a && b) → T b
 and-right true b h = h
 and-right false b h = absurd h
 
