@@ -93,7 +93,7 @@ mod1 : (n : ℕ) → n % 1 ≡ 0
 mod1 n = omega arith
 
 -- gaps, for the three alignments that need one
-gap-al : (c : Fix) (off : ℕ) → (off + gap (size c) off) % size c ≡ 0
+pub gap-al : (c : Fix) (off : ℕ) → (off + gap (size c) off) % size c ≡ 0
 unfolding gap
 gap-al byte off = omega arith
 gap-al bool off = omega arith

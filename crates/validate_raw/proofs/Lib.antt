@@ -1,0 +1,9 @@
+pub mod ArrayLaws
+pub mod SpellLaws
+pub mod WalkLaws
+pub mod ElementLaws
+pub mod OpenLaws
+pub mod BaseLaws
+pub mod LoopLaws
+pub mod CycleLaws
+pub mod EntryLaws
