@@ -21,9 +21,6 @@ abbrev μ-loop : tie.MeasureT-loop
 loop-holds : tie.Need-loop-holds Inv-loop μ-loop
 loop-holds c = (omega arith, refl)
 
-shared-slice-read-class : tie.Need-shared-slice-read-class Inv-loop μ-loop
-shared-slice-read-class c = omega arith
-
 cast-class : tie.Need-cast-class Inv-loop μ-loop
 cast-class c = omega (arith, c .shared-slice-known .given (c .before .before .loop .i))
 
@@ -37,12 +34,6 @@ returns c = sym (other-stop _ _ (c .before .before .before .loop-test .taken) _ 
 returns-2 : tie.Need-returns-2 Inv-loop μ-loop
 unfolding classes
 returns-2 c = sym (slash-twice _ _ (c .before .before .before .before .loop-test .taken) _ _ (c .before .before .before .before .before .loop .inv .1) _ (said _ (omega (arith, c .before .before .before .shared-slice-known .given (c .before .before .before .before .before .loop .i)))) (c .before .if2 .left) (c .if3 .taken))
-
-add-i : tie.Need-add-i Inv-loop μ-loop
-add-i c = omega arith
-
-loop-less : tie.Need-loop-less Inv-loop μ-loop
-loop-less c = omega arith
 
 loop-again : tie.Need-loop-again Inv-loop μ-loop
 unfolding classes
@@ -61,17 +52,4 @@ returns-3 c = sym (c .before .loop .inv .1 ∙ names-end _ _ _ (c .loop-test .le
 
 pub are-names-spec : {M : Type 1} → statement M
 are-names-spec =
-    tie.close
-    (tie.spec
-    Inv-loop
-    μ-loop
-    loop-holds
-    shared-slice-read-class
-    cast-class
-    array-read-class
-    returns
-    returns-2
-    add-i
-    loop-less
-    loop-again
-    returns-3)
+    tie.close (tie.spec Inv-loop μ-loop loop-holds (λ c. omega arith) cast-class array-read-class returns returns-2 (λ c. omega arith) (λ c. omega arith) loop-again returns-3)

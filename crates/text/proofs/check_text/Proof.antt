@@ -9,9 +9,6 @@ use borrow.Author.Needs.{needs}
 use Rattle.text.proofs.check_text.Statement.{statement}
 use Rattle.text.proofs.check_text.Tie as tie
 
-plain-bytes-requires : tie.Need-plain-bytes-requires
-plain-bytes-requires c κs = search needs
-
 returns : tie.Need-returns
 returns c = plain-whole _ (sym (c .before .plain-bytes .ensures) ∙ c .if1 .taken)
 
@@ -22,4 +19,4 @@ returns-2 : tie.Need-returns-2
 returns-2 c = c .walk .ensures ∙ ap (λ (n : ℕ). textOf (drop n (c .before .before .before .before .args .s .now))) (c .before .before .plain-bytes .ensures) ∙ sym (plain-skip _)
 
 pub check-text-spec : {M : Type 1} → statement M
-check-text-spec = tie.close (tie.spec plain-bytes-requires returns walk-requires returns-2)
+check-text-spec = tie.close (tie.spec (λ c κs. search needs) returns walk-requires returns-2)

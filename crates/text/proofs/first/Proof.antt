@@ -9,30 +9,6 @@ use borrow.Author.Needs.{needs}
 use Rattle.text.proofs.first.Statement.{statement}
 use Rattle.text.proofs.first.Tie as tie
 
-asks-requires : tie.Need-asks-requires
-asks-requires c κs = search needs
-
-asks-requires-2 : tie.Need-asks-requires-2
-asks-requires-2 c κs = search needs
-
-asks-requires-3 : tie.Need-asks-requires-3
-asks-requires-3 c κs = search needs
-
-asks-requires-4 : tie.Need-asks-requires-4
-asks-requires-4 c κs = search needs
-
-asks-requires-5 : tie.Need-asks-requires-5
-asks-requires-5 c κs = search needs
-
-asks-requires-6 : tie.Need-asks-requires-6
-asks-requires-6 c κs = search needs
-
-asks-requires-7 : tie.Need-asks-requires-7
-asks-requires-7 c κs = search needs
-
-asks-requires-8 : tie.Need-asks-requires-8
-asks-requires-8 c κs = search needs
-
 returns : tie.Need-returns
 returns c = by-class (c .before .before .args .class) (follow 0 0 0) (c .asks .result) (simp (lt-ltb _ _ (c .before .if1 .taken))) (c .asks .ensures)
 
@@ -62,22 +38,4 @@ returns-9 c = by-class (c .before .before .before .before .before .before .befor
 
 pub first-spec : {M : Type 1} → statement M
 first-spec =
-    tie.close
-    (tie.spec
-    asks-requires
-    asks-requires-2
-    asks-requires-3
-    asks-requires-4
-    asks-requires-5
-    asks-requires-6
-    asks-requires-7
-    asks-requires-8
-    returns
-    returns-2
-    returns-3
-    returns-4
-    returns-5
-    returns-6
-    returns-7
-    returns-8
-    returns-9)
+    tie.close (tie.spec (λ c κs. search needs) (λ c κs. search needs) (λ c κs. search needs) (λ c κs. search needs) (λ c κs. search needs) (λ c κs. search needs) (λ c κs. search needs) (λ c κs. search needs) returns returns-2 returns-3 returns-4 returns-5 returns-6 returns-7 returns-8 returns-9)

@@ -8,22 +8,15 @@ use Rattle.text.proofs.is_path.Tie as tie
 returns : tie.Need-returns
 returns c = path-none _ (c .if1 .taken)
 
-shared-slice-read-if2 : tie.Need-shared-slice-read-if2
-shared-slice-read-if2 c = search needs
-
 returns-2 : tie.Need-returns-2
 returns-2 c = path-first (c .before .before .before .before .args .s .now) (c .if2 .taken)
 
 returns-3 : tie.Need-returns-3
 returns-3 c = path-root (c .before .before .before .before .before .args .s .now) (c .before .if2 .left) (c .if3 .taken)
 
-are-names-requires : tie.Need-are-names-requires
-are-names-requires c κs = search needs
-
 returns-4 : tie.Need-returns-4
 returns-4 c = c .are-names .ensures ∙ path-rest (c .before .before .before .before .before .before .args .s .now) (c .before .before .if2 .left) (c .before .before .before .before .if1 .left) (c .before .if3 .left)
 
 pub is-path-spec : {M : Type 1} → statement M
 is-path-spec =
-    tie.close
-    (tie.spec returns shared-slice-read-if2 returns-2 returns-3 are-names-requires returns-4)
+    tie.close (tie.spec returns (λ c. search needs) returns-2 returns-3 (λ c κs. search needs) returns-4)

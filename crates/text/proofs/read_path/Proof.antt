@@ -6,15 +6,6 @@ use borrow.Author.Needs.{needs}
 use Rattle.text.proofs.read_path.Statement.{statement}
 use Rattle.text.proofs.read_path.Tie as tie
 
-read-string-requires : tie.Need-read-string-requires
-read-string-requires c κs = search needs
-
-enum-known-place : tie.Need-enum-known-place
-enum-known-place c = search needs
-
-add-first : tie.Need-add-first
-add-first c = search needs
-
 sub-stop : tie.Need-sub-stop
 sub-stop c = let k = cut _ _ _ _ (c .before .before .before .before .before .pre) _ (sym (c .before .place .given .1) ∙ c .before .before .before .read-string .ensures) in omega (arith, k .after)
 
@@ -27,15 +18,6 @@ part-is-path-start c = let k = cut _ _ _ _ (c .before .before .before .before .b
 part-is-path-end : tie.Need-part-is-path-end
 part-is-path-end c = let k = cut _ _ _ _ (c .before .before .before .before .before .pre) _ (sym (c .before .place .given .1) ∙ c .before .before .before .read-string .ensures) in search needs
 
-is-path-requires : tie.Need-is-path-requires
-is-path-requires c κs = search needs
-
-refuse-requires : tie.Need-refuse-requires
-refuse-requires c κs = search needs
-
-enum-known-refusal : tie.Need-enum-known-refusal
-enum-known-refusal c = search needs
-
 returns : tie.Need-returns
 returns c = is-a-path _ _ _ _ (c .before .before .before .before .before .before .before .before .pre) _ (cut _ _ _ _ (c .before .before .before .before .before .before .before .before .pre) _ (sym (c .before .before .before .before .place .given .1) ∙ c .before .before .before .before .before .before .read-string .ensures)) (sym (c .if1 .taken) ∙ c .before .is-path .ensures)
 
@@ -47,18 +29,4 @@ returns-3 c = no-string _ _ _ _ (c .before .before .before .before .before .pre)
 
 pub read-path-spec : {M : Type 1} → statement M
 read-path-spec =
-    tie.close
-    (tie.spec
-    read-string-requires
-    enum-known-place
-    add-first
-    sub-stop
-    sub-is-path
-    part-is-path-start
-    part-is-path-end
-    is-path-requires
-    refuse-requires
-    enum-known-refusal
-    returns
-    returns-2
-    returns-3)
+    tie.close (tie.spec (λ c κs. search needs) (λ c. search needs) (λ c. search needs) sub-stop sub-is-path part-is-path-start part-is-path-end (λ c κs. search needs) (λ c κs. search needs) (λ c. search needs) returns returns-2 returns-3)

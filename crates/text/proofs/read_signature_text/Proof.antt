@@ -9,21 +9,12 @@ use borrow.Author.Needs.{needs}
 use Rattle.text.proofs.read_signature_text.Statement.{statement}
 use Rattle.text.proofs.read_signature_text.Tie as tie
 
-refuse-requires : tie.Need-refuse-requires
-refuse-requires c κs = search needs
-
 returns : tie.Need-returns
 unfolding readSig
 returns c = λ o. no-field o _ _ _ _ _ (c .before .before .before .pre .held) (c .before .before .before .pre .inside) (omega arith) _ (c .refuse .ensures)
 
-shared-slice-read-len : tie.Need-shared-slice-read-len
-shared-slice-read-len c = search needs
-
 cast-len : tie.Need-cast-len
 cast-len c = omega (arith, c .shared-slice-known2 .given (c .before .before .before .args .off))
-
-sized-requires : tie.Need-sized-requires
-sized-requires c κs = search needs
 
 returns-2 : tie.Need-returns-2
 unfolding readSig
@@ -33,5 +24,4 @@ returns-2 c =
 
 pub read-signature-text-spec : {M : Type 1} → statement M
 read-signature-text-spec =
-    tie.close
-    (tie.spec refuse-requires returns shared-slice-read-len cast-len sized-requires returns-2)
+    tie.close (tie.spec (λ c κs. search needs) returns (λ c. search needs) cast-len (λ c κs. search needs) returns-2)

@@ -7,53 +7,8 @@ use borrow.Author.Needs.{needs}
 use Rattle.text.proofs.sized.Statement.{statement}
 use Rattle.text.proofs.sized.Tie as tie
 
-add-first : tie.Need-add-first
-add-first c = search needs
-
-sub-if1 : tie.Need-sub-if1
-sub-if1 c = search needs
-
-refuse-requires : tie.Need-refuse-requires
-refuse-requires c κs = search needs
-
 returns : tie.Need-returns
 returns c = λ o q. no-room o _ _ _ _ _ (c .before .before .before .pre .1) (c .before .before .before .pre .0) _ q (c .before .if1 .taken) _ (c .refuse .ensures)
-
-add-stop : tie.Need-add-stop
-add-stop c = search needs
-
-sub-check-text : tie.Need-sub-check-text
-sub-check-text c = search needs
-
-part-check-text-start : tie.Need-part-check-text-start
-part-check-text-start c = search needs
-
-part-check-text-end : tie.Need-part-check-text-end
-part-check-text-end c = search needs
-
-check-text-requires : tie.Need-check-text-requires
-check-text-requires c κs = search needs
-
-enum-told : tie.Need-enum-told
-enum-told c = search needs
-
-terminated-requires : tie.Need-terminated-requires
-terminated-requires c κs = search needs
-
-enum-told-2 : tie.Need-enum-told-2
-enum-told-2 c = search needs
-
-refuse-requires-2 : tie.Need-refuse-requires-2
-refuse-requires-2 c κs = search needs
-
-enum-told-3 : tie.Need-enum-told-3
-enum-told-3 c = search needs
-
-terminated-requires-2 : tie.Need-terminated-requires-2
-terminated-requires-2 c κs = search needs
-
-refuse-requires-3 : tie.Need-refuse-requires-3
-refuse-requires-3 c κs = search needs
 
 returns-2 : tie.Need-returns-2
 returns-2 c =
@@ -77,25 +32,4 @@ returns-5 c =
 
 pub sized-spec : {M : Type 1} → statement M
 sized-spec =
-    tie.close
-    (tie.spec
-    add-first
-    sub-if1
-    refuse-requires
-    returns
-    add-stop
-    sub-check-text
-    part-check-text-start
-    part-check-text-end
-    check-text-requires
-    enum-told
-    terminated-requires
-    enum-told-2
-    refuse-requires-2
-    enum-told-3
-    terminated-requires-2
-    refuse-requires-3
-    returns-2
-    returns-3
-    returns-4
-    returns-5)
+    tie.close (tie.spec (λ c. search needs) (λ c. search needs) (λ c κs. search needs) returns (λ c. search needs) (λ c. search needs) (λ c. search needs) (λ c. search needs) (λ c κs. search needs) (λ c. search needs) (λ c κs. search needs) (λ c. search needs) (λ c κs. search needs) (λ c. search needs) (λ c κs. search needs) (λ c κs. search needs) returns-2 returns-3 returns-4 returns-5)

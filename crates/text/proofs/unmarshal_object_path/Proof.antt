@@ -8,14 +8,8 @@ use borrow.Author.Needs.{needs}
 use Rattle.text.proofs.unmarshal_object_path.Statement.{statement}
 use Rattle.text.proofs.unmarshal_object_path.Tie as tie
 
-refuse-requires : tie.Need-refuse-requires
-refuse-requires c κs = search needs
-
 returns : tie.Need-returns
 returns c = ap Refused (c .refuse .ensures) ∙ entry-outside (readPath (c .before .before .before .args .order)) _ _ (c .before .if1 .taken)
-
-read-path-requires : tie.Need-read-path-requires
-read-path-requires c κs = search needs
 
 taken-from-requires : tie.Need-taken-from-requires
 taken-from-requires c κs = entry-past (readPath (c .before .before .before .args .order)) (readPath-local (c .before .before .before .args .order) .bound) (c .before .before .before .args .buf .now) (c .before .before .before .args .offset .0) _ (c .before .if1 .left) (c .read-path .ensures)
@@ -25,4 +19,4 @@ returns-2 c = c .taken-from .ensures ∙ entry-is (readPath (c .before .before .
 
 pub unmarshal-object-path-spec : {M : Type 1} → statement M
 unmarshal-object-path-spec =
-    tie.close (tie.spec refuse-requires returns read-path-requires taken-from-requires returns-2)
+    tie.close (tie.spec (λ c κs. search needs) returns (λ c κs. search needs) taken-from-requires returns-2)

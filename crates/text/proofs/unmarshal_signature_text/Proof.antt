@@ -9,14 +9,8 @@ use borrow.Author.Needs.{needs}
 use Rattle.text.proofs.unmarshal_signature_text.Statement.{statement}
 use Rattle.text.proofs.unmarshal_signature_text.Tie as tie
 
-refuse-requires : tie.Need-refuse-requires
-refuse-requires c κs = search needs
-
 returns : tie.Need-returns
 returns c = λ o. ap Refused (c .refuse .ensures) ∙ entry-outside (readSig o) _ _ (c .before .if1 .taken)
-
-read-signature-text-requires : tie.Need-read-signature-text-requires
-read-signature-text-requires c κs = search needs
 
 taken-from-requires : tie.Need-taken-from-requires
 taken-from-requires c κs = entry-past (readSig Little) (readSig-local Little .bound) (c .before .before .before .args .buf .now) (c .before .before .before .args .offset .0) _ (c .before .if1 .left) (c .read-signature-text .ensures Little)
@@ -26,5 +20,4 @@ returns-2 c = λ o. c .taken-from .ensures ∙ entry-is (readSig o) _ _ _ (c .be
 
 pub unmarshal-signature-text-spec : {M : Type 1} → statement M
 unmarshal-signature-text-spec =
-    tie.close
-    (tie.spec refuse-requires returns read-signature-text-requires taken-from-requires returns-2)
+    tie.close (tie.spec (λ c κs. search needs) returns (λ c κs. search needs) taken-from-requires returns-2)

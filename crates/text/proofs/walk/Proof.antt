@@ -23,9 +23,6 @@ loop-holds : tie.Need-loop-holds Inv-loop μ-loop
 unfolding utf8
 loop-holds c = (omega arith, refl, refl)
 
-shared-slice-read-b : tie.Need-shared-slice-read-b Inv-loop μ-loop
-shared-slice-read-b c = omega arith
-
 cast-class : tie.Need-cast-class Inv-loop μ-loop
 cast-class c = omega (arith, c .shared-slice-known2 .given (c .before .before .loop .i))
 
@@ -36,20 +33,8 @@ one-more-requires : tie.Need-one-more-requires Inv-loop μ-loop
 unfolding classes
 one-more-requires c κs = rule _ (omega (arith, c .shared-slice-known2 .given (c .before .before .loop .i)))
 
-enum-known-next : tie.Need-enum-known-next Inv-loop μ-loop
-enum-known-next c = search needs
-
-enum-told : tie.Need-enum-told Inv-loop μ-loop
-enum-told c = search needs
-
 returns : tie.Need-returns Inv-loop μ-loop
 returns c = not-utf8 _ (scan-stop _ _ (c .before .before .before .before .loop-test .taken) _ _ _ (c .before .before .before .before .before .loop .inv .1) (c .before .before .one-more .ensures) (c .enum-told .given .1))
-
-add-i : tie.Need-add-i Inv-loop μ-loop
-add-i c = omega arith
-
-loop-less : tie.Need-loop-less Inv-loop μ-loop
-loop-less c = omega arith
 
 loop-again : tie.Need-loop-again Inv-loop μ-loop
 unfolding classes
@@ -76,21 +61,4 @@ returns-4 c =
 
 pub walk-spec : {M : Type 1} → statement M
 walk-spec =
-    tie.close
-    (tie.spec
-    Inv-loop
-    μ-loop
-    loop-holds
-    shared-slice-read-b
-    cast-class
-    array-read-class
-    one-more-requires
-    enum-known-next
-    enum-told
-    returns
-    add-i
-    loop-less
-    loop-again
-    returns-2
-    returns-3
-    returns-4)
+    tie.close (tie.spec Inv-loop μ-loop loop-holds (λ c. omega arith) cast-class array-read-class one-more-requires (λ c. search needs) (λ c. search needs) returns (λ c. omega arith) (λ c. omega arith) loop-again returns-2 returns-3 returns-4)

@@ -8,23 +8,14 @@ use borrow.Author.Needs.{needs}
 use Rattle.util.proofs.align_offset.Statement.{statement}
 use Rattle.util.proofs.align_offset.Tie as tie
 
-refuse-requires : tie.Need-refuse-requires
-refuse-requires c κs = search needs
-
 returns : tie.Need-returns
 returns c = outside _ _ _ (c .before .if1 .taken) _ (c .refuse .ensures)
-
-is-alignment-requires : tie.Need-is-alignment-requires
-is-alignment-requires c κs = search needs
 
 padded-requires : tie.Need-padded-requires
 padded-requires c κs = (record { inside = search needs; held = search needs }, rw (sym (c .before .is-alignment .ensures) ∙ c .if2 .taken) tt)
 
 taken-from-requires : tie.Need-taken-from-requires
 taken-from-requires c κs = let a = c .before .before .before .before .before .args in entry-past (padding (a .align .0)) (padding-local (a .align .0) .bound) (a .buf .now) (a .offset .0) _ (c .before .before .before .if1 .left) (c .padded .ensures)
-
-refuse-requires-2 : tie.Need-refuse-requires-2
-refuse-requires-2 c κs = search needs
 
 returns-2 : tie.Need-returns-2
 returns-2 c = c .taken-from .ensures ∙ aligned _ _ _ _ (c .before .before .before .before .if1 .left) (sym (c .before .before .before .is-alignment .ensures) ∙ c .before .before .if2 .taken) (c .before .padded .ensures)
@@ -34,13 +25,4 @@ returns-3 c = no-alignment _ _ _ (c .before .before .before .if1 .left) (sym (c 
 
 pub align-offset-spec : {M : Type 1} → statement M
 align-offset-spec =
-    tie.close
-    (tie.spec
-    refuse-requires
-    returns
-    is-alignment-requires
-    padded-requires
-    taken-from-requires
-    refuse-requires-2
-    returns-2
-    returns-3)
+    tie.close (tie.spec (λ c κs. search needs) returns (λ c κs. search needs) padded-requires taken-from-requires (λ c κs. search needs) returns-2 returns-3)

@@ -6,15 +6,6 @@ use borrow.Author.Needs.{needs}
 use Rattle.util.proofs.gap.Statement.{statement}
 use Rattle.util.proofs.gap.Tie as tie
 
-sub-result : tie.Need-sub-result
-sub-result c = search needs
-
-sub-result-2 : tie.Need-sub-result-2
-sub-result-2 c = search needs
-
-sub-result-3 : tie.Need-sub-result-3
-sub-result-3 c = search needs
-
 returns : tie.Need-returns
 unfolding gap
 returns c = rw (c .if1 .taken)
@@ -33,4 +24,4 @@ returns-4 c = rw (is-one _ (c .before .before .before .pre) (c .before .before .
 
 pub gap-spec : {M : Type 1} → statement M
 gap-spec =
-    tie.close (tie.spec sub-result sub-result-2 sub-result-3 returns returns-2 returns-3 returns-4)
+    tie.close (tie.spec (λ c. search needs) (λ c. search needs) (λ c. search needs) returns returns-2 returns-3 returns-4)

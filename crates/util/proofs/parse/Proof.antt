@@ -5,26 +5,11 @@ use borrow.Author.Needs.{needs}
 use Rattle.util.proofs.parse.Statement.{statement}
 use Rattle.util.proofs.parse.Tie as tie
 
-refuse-requires : tie.Need-refuse-requires
-refuse-requires c κs = search needs
-
 returns : tie.Need-returns
 returns c = outside _ _ _ _ (c .before .if1 .taken) _ (c .refuse .ensures)
 
-sub-if2 : tie.Need-sub-if2
-sub-if2 c = search needs
-
-refuse-requires-2 : tie.Need-refuse-requires-2
-refuse-requires-2 c κs = search needs
-
 returns-2 : tie.Need-returns-2
 returns-2 c = too-few _ _ _ _ (c .before .before .if1 .left) (c .before .if2 .taken) _ (c .refuse2 .ensures)
-
-load16-requires : tie.Need-load16-requires
-load16-requires c κs = search needs
-
-load32-requires : tie.Need-load32-requires
-load32-requires c κs = search needs
 
 load64-requires : tie.Need-load64-requires
 load64-requires c κs = omega (arith, is-eight _ (c .before .before .before .before .before .pre) (c .before .if3 .left) (c .if4 .left))
@@ -40,16 +25,4 @@ returns-5 c = is-read _ _ _ _ (c .before .before .before .before .if1 .left) (c 
 
 pub parse-spec : {M : Type 1} → statement M
 parse-spec =
-    tie.close
-    (tie.spec
-    refuse-requires
-    returns
-    sub-if2
-    refuse-requires-2
-    returns-2
-    load16-requires
-    load32-requires
-    load64-requires
-    returns-3
-    returns-4
-    returns-5)
+    tie.close (tie.spec (λ c κs. search needs) returns (λ c. search needs) (λ c κs. search needs) returns-2 (λ c κs. search needs) (λ c κs. search needs) load64-requires returns-3 returns-4 returns-5)

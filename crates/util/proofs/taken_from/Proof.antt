@@ -3,14 +3,8 @@ use borrow.Author.Needs.{needs}
 use Rattle.util.proofs.taken_from.Statement.{statement}
 use Rattle.util.proofs.taken_from.Tie as tie
 
-enum-known-reached : tie.Need-enum-known-reached
-enum-known-reached c = search needs
-
 sub-t7 : tie.Need-sub-t7
 sub-t7 c = rw (c .before .reached .given .1) at (c .before .before .before .pre)
-
-enum-known-reached-2 : tie.Need-enum-known-reached-2
-enum-known-reached-2 c = search needs
 
 returns : tie.Need-returns
 returns c = rw (c .before .reached .given .1)
@@ -20,4 +14,4 @@ returns-2 c = rw (c .before .reached2 .given .1)
 
 pub taken-from-spec : {M : Type 1} → statement M
 taken-from-spec =
-    tie.close (tie.spec enum-known-reached sub-t7 enum-known-reached-2 returns returns-2)
+    tie.close (tie.spec (λ c. search needs) sub-t7 (λ c. search needs) returns returns-2)
