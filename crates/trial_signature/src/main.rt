@@ -1,0 +1,151 @@
+// Runs the signature check: every signature of up to four characters from `a(){}bysvz`, then each line of the input: document 01's own
+// cases; arrays, structs and dicts 31 and 32 deep, alone and mixed; deep ones with a fault; and 255 and 256 bytes.
+// The expected numbers were made by an independent model of document 01's grammar, a recursive reading of the text.
+use libc::STDIN_FILENO;
+use libc::STDOUT_FILENO;
+use meaning::Counted;
+ghost use Prim.Native.Nat.{_<_, _≤_};
+ghost use lib.ListN.{length};
+
+const LETTERS: [u8; 10] = [b'a', b'(', b')', b'{', b'}', b'b', b'y', b's', b'v', b'z'];
+
+// Answers as numbers: a count of types as it is, a refusal at position 0 by its number plus this.
+const REFUSED: usize = 1000;
+
+fn wide(x: u8) -> usize
+    ensures { λ r. ⌜ r < 256 ⌝ }
+{
+    x as usize
+}
+
+fn number_of(answer: Counted) -> usize {
+    match answer {
+        Counted::Types(types) => types,
+        Counted::Refused(r) => {
+            let p = r.place;
+            let at = p.0;
+            if at == 0 {
+                let f = r.fault;
+                REFUSED + wide(meaning::number(f))
+            } else {
+                0
+            }
+        }
+    }
+}
+
+fn letter(k: usize) -> u8 {
+    LETTERS[k % 10]
+}
+
+fn say(word: &[u8]) {
+    io::write_all(STDOUT_FILENO, word);
+}
+
+fn say_number(n: usize) {
+    io::print_decimal(STDOUT_FILENO, n as u64);
+}
+
+fn say_answer(answer: usize) {
+    if answer < REFUSED {
+        say(b"ok ");
+        say_number(answer);
+    } else {
+        say(b"no ");
+        say_number(answer - REFUSED);
+    }
+}
+
+// A row of the table, where anything has the answer.
+fn say_row(length: usize, wanted: usize, count: usize, sum: usize) {
+    if count != 0 {
+        say_number(length);
+        say(b" ");
+        say_answer(wanted);
+        say(b" ");
+        say_number(count);
+        say(b" ");
+        say_number(sum);
+        say(b"\n");
+    }
+}
+
+// How many of the signatures of this length have the answer. The signatures are those whose characters are the digits of k, the lowest
+// first, for each k in turn; the checksum takes h to (31 h + k + 1) mod 1000003 at each of them that has the answer.
+fn tally(length: usize, all: usize, wanted: usize)
+    requires { ⌜ length ≤ 4 ⌝ }
+    requires { ⌜ all ≤ 10000 ⌝ }
+{
+    let mut count: usize = 0;
+    let mut sum: usize = 0;
+    let mut k = 0;
+    while k < all {
+        let sig = [letter(k), letter(k / 10), letter(k / 100), letter(k / 1000)];
+        if answer_part(&sig, 0, length) == wanted {
+            count += 1;
+            sum = (sum * 31 + k + 1) % 1000003;
+        }
+        k += 1;
+    }
+    say_row(length, wanted, count, sum);
+}
+
+// Every answer that there is: up to four types, or one of the refusals 10 to 14.
+fn tallies(length: usize, all: usize)
+    requires { ⌜ length ≤ 4 ⌝ }
+    requires { ⌜ all ≤ 10000 ⌝ }
+{
+    let mut n = 1;
+    while n < 5 {
+        tally(length, all, n);
+        n += 1;
+    }
+    n = 10;
+    while n < 15 {
+        tally(length, all, REFUSED + n);
+        n += 1;
+    }
+}
+
+// Where the line ends that begins at `from`.
+fn line_end(text: &[u8], from: usize) -> usize
+    requires { ⌜ from ≤ length (now text) ⌝ }
+    ensures { λ r. ⌜ (from ≤ r) × (r ≤ length (now (text .entry))) ⌝ }
+{
+    let mut i = from;
+    while i < text.len() {
+        if text[i] == b'\n' {
+            return i;
+        }
+        i += 1;
+    }
+    i
+}
+
+// The answer to the bytes from `from` to `end`.
+fn answer_part(text: &[u8], from: usize, end: usize) -> usize
+    requires { ⌜ (from ≤ end) × (end ≤ length (now text)) ⌝ }
+{
+    number_of(signature::validate_signature(&text[from..end]))
+}
+
+// Each line of the input is a signature.
+fn lines(text: &[u8]) {
+    let mut at = 0;
+    while at < text.len() {
+        let end = line_end(text, at);
+        say_answer(answer_part(text, at, end));
+        say(b"\n");
+        at = end + 1;
+    }
+}
+
+fn main() {
+    tallies(1, 10);
+    tallies(2, 100);
+    tallies(3, 1000);
+    tallies(4, 10000);
+    let mut text = [0u8; 8192];
+    let n = io::read_full(STDIN_FILENO, &mut text);
+    lines(&text[..n]);
+}
