@@ -1,20 +1,20 @@
 -- Rows of marks follow the grammar's stack, step for step.
-use Prim.Native.Nat.{ℕ, suc, _+_, _-_, _<_, _≤_}
-use mathlib.Core.Path.{_≡_, refl, ap, sym, _∙_}
+use Prim.Native.Nat.{ℕ, zero, suc, _+_, _-_, _<_, _≤_}
+use mathlib.Core.Path.{_≡_, refl, ap, sym, subst, _∙_}
 use mathlib.Core.Bool.{Bool, true, false, _&&_, and-assoc}
 use mathlib.Core.List.{List, [], _∷_}
 use mathlib.Core.Logic.{_⊎_, inl, inr}
 use native.Mathlib.Omega.{arith}
 use lib.ListN.{length, getD, set, length-append, length-set}
 use lib.Seq.{getD-set-same, getD-set-other}
-use Rattle.meaning.specs.Types.{loose, Base, Ty, base, arr, dict, struct, variant}
+use Rattle.meaning.specs.Types.{Form, inArray, loose, Base, Ty, base, arr, dict, struct, variant, Tys, one}
 use Rattle.meaning.specs.Signature.{shallow, nest, nests, isKey, Stack, floor, open0, open1, inArr, needKey, needVal, needEnd, Step, to, bad, put, putBase, begin, curl, close, uncurl}
 use Rattle.meaning.specs.declared.Fault.{Fault}
 use Rattle.meaning.specs.declared.Fault.the-variants.{InvalidSignature, EmptyStruct}
 use Rattle.signature.specs.declared.State.{State}
 use Rattle.signature.specs.declared.Moved.{Moved}
 use Rattle.signature.specs.declared.Moved.the-variants.{To, Bad}
-use Rattle.signature.specs.Marks.{mark, height, structsIn, arraysIn, wholeIn, fineIn, Held, Stands, Follows, Takes, Leaf, Whole, Begins, After}
+use Rattle.signature.specs.Marks.{mark, height, structsIn, arraysIn, wholeIn, fineIn, Held, Stands, Follows, Takes, Leaf, Whole, Begins, Goes, After}
 use Rattle.signature.proofs.Nesting.{nest-array, nest-struct, nest-all, nest-fields}
 
 -- the last mark says what was opened last
@@ -39,6 +39,36 @@ the-mark s e = sym (has-mark s) ∙ e
 
 pub not-mark : {k : Stack} {m : List ℕ} {o : State} {v : ℕ} → Stands k m o → (getD m (o .top) 0 ≡ v → ⊥) → mark k ≡ v → ⊥
 not-mark s f e = f (has-mark s ∙ e)
+
+-- a stack with a given mark is what that mark stands for
+unfoldable pub Handler : (Stack → Type 0) → ℕ → Type 0
+Handler P zero = (ts : List Ty) → P (floor ts)
+Handler P (suc zero) = (k : Stack) → P (open0 k)
+Handler P (suc (suc zero)) = (fs : Tys) (k : Stack) → P (open1 fs k)
+Handler P (suc (suc (suc zero))) = (f : Form) (c : Base) (k : Stack) → P (needVal f c k)
+Handler P (suc (suc (suc (suc zero)))) = (f : Form) (c : Base) (e : Ty) (k : Stack) → P (needEnd f c e k)
+Handler P (suc (suc (suc (suc (suc zero))))) = (f : Form) (k : Stack) → P (needKey f k)
+Handler P (suc (suc (suc (suc (suc (suc n)))))) = (k : Stack) → P (inArr k)
+
+pub by-mark : (P : Stack → Type 0) (k : Stack) (v : ℕ) → mark k ≡ v → Handler P v → P k
+unfolding Handler
+by-mark P (floor ts) v e = subst (λ (n : ℕ). Handler P n → P (floor ts)) e (λ h. h ts)
+by-mark P (open0 k) v e = subst (λ (n : ℕ). Handler P n → P (open0 k)) e (λ h. h k)
+by-mark P (open1 fs k) v e = subst (λ (n : ℕ). Handler P n → P (open1 fs k)) e (λ h. h fs k)
+by-mark P (inArr k) v e = subst (λ (n : ℕ). Handler P n → P (inArr k)) e (λ h. h k)
+by-mark P (needKey f k) v e = subst (λ (n : ℕ). Handler P n → P (needKey f k)) e (λ h. h f k)
+by-mark P (needVal f c k) v e = subst (λ (n : ℕ). Handler P n → P (needVal f c k)) e (λ h. h f c k)
+by-mark P (needEnd f c d k) v e = subst (λ (n : ℕ). Handler P n → P (needEnd f c d k)) e (λ h. h f c d k)
+
+pub at-floor : (k : Stack) → height k ≡ 0 → mark k ≡ 0
+unfolding height
+at-floor (floor ts) e = refl
+at-floor (open0 k) e = absurd (omega (arith, e))
+at-floor (open1 fs k) e = absurd (omega (arith, e))
+at-floor (inArr k) e = absurd (omega (arith, e))
+at-floor (needKey f k) e = absurd (omega (arith, e))
+at-floor (needVal f c k) e = absurd (omega (arith, e))
+at-floor (needEnd f c d k) e = absurd (omega (arith, e))
 
 -- a mark above leaves those below
 held-set : (k : Stack) (m : List ℕ) (j v : ℕ) → height k < j → Held k m → Held k (set m j v)
@@ -72,6 +102,22 @@ structs-low {k} s = omega (arith, low k .0, s .structs, s .top)
 pub arrays-low : {k : Stack} {m : List ℕ} {o : State} → Stands k m o → o .arrays ≤ o .top
 arrays-low {k} s = omega (arith, low k .1, s .arrays, s .top)
 
+-- the last mark becomes v, and the stack j above b with it; the numbers are those of j already
+swapped : (b j : Stack) (v n : ℕ) (m : List ℕ) {o : State} → length m ≡ 256 → Held b m → o .top ≡ suc (height b)
+    → ((l : List ℕ) → (getD l (suc (height b)) 0 ≡ v) × Held b l → Held j l) → height j ≡ suc (height b)
+    → o .structs ≡ structsIn j → o .arrays ≡ arraysIn j → o .types ≡ wholeIn j → o .fine ≡ fineIn j
+    → o .top < 256 → o .top + o .types ≤ n → Goes j (set m (o .top) v) n (To o)
+swapped b j v n m {o} long held top marks high s a t f l q =
+    record {
+      state = o;
+      is = refl;
+      follows = record {
+        stands = record { long = simp length-set long; held = marks (set m (o .top) v) (marked b m (o .top) v top (omega arith) held); top = omega arith; structs = s; arrays = a; types = t };
+        fine = f;
+      };
+      small = q;
+    }
+
 -- the state with other numbers
 abbrev pub placed : State → ℕ → ℕ → State
 placed o t a = record { top = t; structs = o .structs; arrays = a; types = o .types; fine = o .fine }
@@ -79,154 +125,99 @@ placed o t a = record { top = t; structs = o .structs; arrays = a; types = o .ty
 abbrev pub counted : State → State
 counted o = record { top = o .top; structs = o .structs; arrays = o .arrays; types = o .types + 1; fine = o .fine }
 
--- a whole type closes an array that waits for it
-pub unarray : {x : Step} {m : List ℕ} {o : State} → Whole x m o → getD m (o .top) 0 ≡ 6 → Whole x m (placed o (o .top - 1) (o .arrays - 1))
-unfolding Held height structsIn arraysIn wholeIn fineIn put
-unarray {x} {m} {o} w e = go (w .stack) (w .type) (w .is) (w .takes) (the-mark (w .takes .stands) e)
-  where
-    go : (k : Stack) (t : Ty) → x ≡ put k t → Takes k t m o → mark k ≡ 6 → Whole x m (placed o (o .top - 1) (o .arrays - 1))
-    go (inArr k) t i h e =
-        let s = h .stands in
-        record {
-          stack = k;
-          type = arr t;
-          is = i;
-          takes = record {
-            stands = record { long = s .long; held = s .held .1; top = omega (arith, s .top); structs = s .structs; arrays = omega (arith, s .arrays); types = s .types };
-            fine = h .fine ∙ ap (λ (b : Bool). fineIn k && b) (sym (nest-array t (structsIn k) (arraysIn k)));
-          };
-        }
-    go (floor ts) t i h e = absurd (omega (arith, e))
-    go (open0 k) t i h e = absurd (omega (arith, e))
-    go (open1 fs k) t i h e = absurd (omega (arith, e))
-    go (needKey f k) t i h e = absurd (omega (arith, e))
-    go (needVal f c k) t i h e = absurd (omega (arith, e))
-    go (needEnd f c d k) t i h e = absurd (omega (arith, e))
+-- what a step leaves, with a whole type to be put, once the last mark is gone
+pub record Closes (x : Step) (m : List ℕ) (o : State) (n : ℕ) (left : State) : Type 0 where
+  pub above : 1 ≤ o .top
+  pub inside : 1 ≤ n
+  pub whole : Whole x m left
 
--- the array that waits is counted
-pub in-array : {x : Step} {m : List ℕ} {o : State} → Whole x m o → getD m (o .top) 0 ≡ 6 → (1 ≤ o .top) × (1 ≤ o .arrays)
-unfolding height arraysIn
-in-array {x} {m} {o} w e = go (w .stack) (w .takes .stands) (the-mark (w .takes .stands) e)
-  where
-    go : (k : Stack) → Stands k m o → mark k ≡ 6 → (1 ≤ o .top) × (1 ≤ o .arrays)
-    go (inArr k) s e = (omega (arith, s .top), omega (arith, s .arrays))
-    go (floor ts) s e = absurd (omega (arith, e))
-    go (open0 k) s e = absurd (omega (arith, e))
-    go (open1 fs k) s e = absurd (omega (arith, e))
-    go (needKey f k) s e = absurd (omega (arith, e))
-    go (needVal f c k) s e = absurd (omega (arith, e))
-    go (needEnd f c d k) s e = absurd (omega (arith, e))
+-- the stack b below the last mark takes the type t
+closes-below : (b : Stack) (t : Ty) {x : Step} (m : List ℕ) {o : State} {n : ℕ} {q : State} → x ≡ put b t → 1 ≤ o .top → 1 ≤ n → length m ≡ 256 → Held b m
+    → q .top ≡ height b → q .structs ≡ structsIn b → q .arrays ≡ arraysIn b → q .types ≡ wholeIn b
+    → (y : Bool) → nest t (structsIn b) (arraysIn b) ≡ y → q .fine ≡ (fineIn b && y) → Closes x m o n q
+closes-below b t m i u v l h p s a w y e f =
+    record {
+      above = u;
+      inside = v;
+      whole = record {
+        stack = b;
+        type = t;
+        is = i;
+        takes = record { stands = record { long = l; held = h; top = p; structs = s; arrays = a; types = w }; fine = f ∙ ap (λ (z : Bool). fineIn b && z) (sym e) };
+      };
+    }
+
+-- a whole type closes an array that waits for it
+pub unarray : {x : Step} {m : List ℕ} {o : State} → Whole x m o → getD m (o .top) 0 ≡ 6 → Closes x m o (o .arrays) (placed o (o .top - 1) (o .arrays - 1))
+unfolding Handler Held height structsIn arraysIn wholeIn fineIn put
+unarray {x} {m} {o} w e = by-mark (λ k. x ≡ put k (w .type) → Takes k (w .type) m o → Closes x m o (o .arrays) (placed o (o .top - 1) (o .arrays - 1))) (w .stack) 6 (the-mark (w .takes .stands) e)
+    (λ k i h.
+    let s = h .stands in
+    closes-below k (arr (w .type)) m i (omega (arith, s .top)) (omega (arith, s .arrays)) (s .long) (s .held .1) (omega (arith, s .top)) (s .structs) (omega (arith, s .arrays)) (s .types) _ (nest-array (w .type) (structsIn k) (arraysIn k)) (h .fine))
+    (w .is) (w .takes)
 
 -- the last mark takes the type
-pub put-floor : {x : Step} {m : List ℕ} {o : State} (n : ℕ) → Whole x m o → getD m (o .top) 0 ≡ 0 → o .top + o .types + 1 ≤ n → After x m n (To (counted o))
-unfolding Held height structsIn arraysIn wholeIn fineIn put
-put-floor {x} {m} {o} n w e l = go (w .stack) (w .type) (w .is) (w .takes) (the-mark (w .takes .stands) e)
-  where
-    go : (k : Stack) (t : Ty) → x ≡ put k t → Takes k t m o → mark k ≡ 0 → After x m n (To (counted o))
-    go (floor ts) t i h e =
-        let s = h .stands in
-        rw i (record {
-          state = counted o;
-          is = refl;
-          follows = record {
-            stands = record { long = s .long; held = s .held; top = s .top; structs = s .structs; arrays = s .arrays; types = omega (arith, s .types, length-append ts (t ∷ [])) };
-            fine = h .fine ∙ sym (nest-all ts t);
-          };
-          small = omega arith;
-        })
-    go (inArr k) t i h e = absurd (omega (arith, e))
-    go (open0 k) t i h e = absurd (omega (arith, e))
-    go (open1 fs k) t i h e = absurd (omega (arith, e))
-    go (needKey f k) t i h e = absurd (omega (arith, e))
-    go (needVal f c k) t i h e = absurd (omega (arith, e))
-    go (needEnd f c d k) t i h e = absurd (omega (arith, e))
+module _ {x : Step} {m : List ℕ} {o : State} (n : ℕ) (w : Whole x m o) where
+  by-stack : (v : ℕ) → getD m (o .top) 0 ≡ v → (l : List ℕ) (r : Moved) → Handler (λ k. Takes k (w .type) m o → After (put k (w .type)) l n r) v → After x l n r
+  by-stack v e l r h = rw (w .is) (by-mark (λ k. Takes k (w .type) m o → After (put k (w .type)) l n r) (w .stack) v (the-mark (w .takes .stands) e) h (w .takes))
 
-pub put-empty : {x : Step} {m : List ℕ} {o : State} (n : ℕ) → Whole x m o → getD m (o .top) 0 ≡ 1 → o .top < 256 → o .top + o .types ≤ n → After x (set m (o .top) 2) n (To o)
-unfolding Held height structsIn arraysIn wholeIn fineIn put nest
-put-empty {x} {m} {o} n w e b l = go (w .stack) (w .type) (w .is) (w .takes) (the-mark (w .takes .stands) e)
-  where
-    go : (k : Stack) (t : Ty) → x ≡ put k t → Takes k t m o → mark k ≡ 1 → After x (set m (o .top) 2) n (To o)
-    go (open0 k) t i h e =
-        let s = h .stands in
-        rw i (record {
-          state = o;
-          is = refl;
-          follows = record {
-            stands = record { long = simp length-set (s .long); held = marked k m (o .top) 2 (s .top) (omega (arith, s .long)) (s .held .1); top = s .top; structs = s .structs; arrays = s .arrays; types = s .types };
-            fine = h .fine;
-          };
-          small = l;
-        })
-    go (floor ts) t i h e = absurd (omega (arith, e))
-    go (inArr k) t i h e = absurd (omega (arith, e))
-    go (open1 fs k) t i h e = absurd (omega (arith, e))
-    go (needKey f k) t i h e = absurd (omega (arith, e))
-    go (needVal f c k) t i h e = absurd (omega (arith, e))
-    go (needEnd f c d k) t i h e = absurd (omega (arith, e))
+  pub put-floor : getD m (o .top) 0 ≡ 0 → o .top + o .types + 1 ≤ n → After x m n (To (counted o))
+  unfolding Handler Held height structsIn arraysIn wholeIn fineIn put
+  put-floor e l = by-stack 0 e m (To (counted o)) (λ ts h.
+      let s = h .stands in
+      record {
+        state = counted o;
+        is = refl;
+        follows = record {
+          stands = record { long = s .long; held = s .held; top = s .top; structs = s .structs; arrays = s .arrays; types = omega (arith, s .types, length-append ts (w .type ∷ [])) };
+          fine = h .fine ∙ sym (nest-all ts (w .type));
+        };
+        small = omega arith;
+      })
 
-pub put-fields : {x : Step} {m : List ℕ} {o : State} (n : ℕ) → Whole x m o → getD m (o .top) 0 ≡ 2 → o .top + o .types ≤ n → After x m n (To o)
-unfolding Held height structsIn arraysIn wholeIn fineIn put
-put-fields {x} {m} {o} n w e l = go (w .stack) (w .type) (w .is) (w .takes) (the-mark (w .takes .stands) e)
-  where
-    go : (k : Stack) (t : Ty) → x ≡ put k t → Takes k t m o → mark k ≡ 2 → After x m n (To o)
-    go (open1 fs k) t i h e =
-        let s = h .stands in
-        rw i (record {
-          state = o;
-          is = refl;
-          follows = record {
-            stands = record { long = s .long; held = s .held; top = s .top; structs = s .structs; arrays = s .arrays; types = s .types };
-            fine =
-                h .fine
-                ∙ and-assoc (fineIn k) (nests fs (suc (structsIn k)) (arraysIn k)) (nest t (suc (structsIn k)) (arraysIn k))
-                ∙ ap (λ (b : Bool). fineIn k && b) (sym (nest-fields fs t (suc (structsIn k)) (arraysIn k)));
-          };
-          small = l;
-        })
-    go (floor ts) t i h e = absurd (omega (arith, e))
-    go (inArr k) t i h e = absurd (omega (arith, e))
-    go (open0 k) t i h e = absurd (omega (arith, e))
-    go (needKey f k) t i h e = absurd (omega (arith, e))
-    go (needVal f c k) t i h e = absurd (omega (arith, e))
-    go (needEnd f c d k) t i h e = absurd (omega (arith, e))
+  pub put-empty : getD m (o .top) 0 ≡ 1 → o .top < 256 → o .top + o .types ≤ n → After x (set m (o .top) 2) n (To o)
+  unfolding Handler Held height structsIn arraysIn wholeIn fineIn put nest
+  put-empty e b l = by-stack 1 e (set m (o .top) 2) (To o) (λ k h.
+      let s = h .stands in
+      swapped k (open1 (one (w .type)) k) 2 n m (s .long) (s .held .1) (s .top) (λ l x. x) refl (s .structs) (s .arrays) (s .types) (h .fine) b l)
 
-pub put-value : {x : Step} {m : List ℕ} {o : State} (n : ℕ) → Whole x m o → getD m (o .top) 0 ≡ 3 → o .top < 256 → o .top + o .types ≤ n → After x (set m (o .top) 4) n (To o)
-unfolding Held height structsIn arraysIn wholeIn fineIn put
-put-value {x} {m} {o} n w e b l = go (w .stack) (w .type) (w .is) (w .takes) (the-mark (w .takes .stands) e)
-  where
-    go : (k : Stack) (t : Ty) → x ≡ put k t → Takes k t m o → mark k ≡ 3 → After x (set m (o .top) 4) n (To o)
-    go (needVal f c k) t i h e =
-        let s = h .stands in
-        rw i (record {
-          state = o;
-          is = refl;
-          follows = record {
-            stands = record { long = simp length-set (s .long); held = marked k m (o .top) 4 (s .top) (omega (arith, s .long)) (s .held .1); top = s .top; structs = s .structs; arrays = s .arrays; types = s .types };
-            fine = h .fine;
-          };
-          small = l;
-        })
-    go (floor ts) t i h e = absurd (omega (arith, e))
-    go (inArr k) t i h e = absurd (omega (arith, e))
-    go (open0 k) t i h e = absurd (omega (arith, e))
-    go (open1 fs k) t i h e = absurd (omega (arith, e))
-    go (needKey f k) t i h e = absurd (omega (arith, e))
-    go (needEnd f c d k) t i h e = absurd (omega (arith, e))
+  pub put-fields : getD m (o .top) 0 ≡ 2 → o .top + o .types ≤ n → After x m n (To o)
+  unfolding Handler Held height structsIn arraysIn wholeIn fineIn put
+  put-fields e l = by-stack 2 e m (To o) (λ fs k h.
+      let s = h .stands in
+      record {
+        state = o;
+        is = refl;
+        follows = record {
+          stands = record { long = s .long; held = s .held; top = s .top; structs = s .structs; arrays = s .arrays; types = s .types };
+          fine =
+              h .fine
+              ∙ and-assoc (fineIn k) (nests fs (suc (structsIn k)) (arraysIn k)) (nest (w .type) (suc (structsIn k)) (arraysIn k))
+              ∙ ap (λ (b : Bool). fineIn k && b) (sym (nest-fields fs (w .type) (suc (structsIn k)) (arraysIn k)));
+        };
+        small = l;
+      })
 
--- where a key or a bracket is due, no type is taken
-pub put-none : {x : Step} {m : List ℕ} {o : State} (n : ℕ) → Whole x m o → (getD m (o .top) 0 ≡ 0 → ⊥) → (getD m (o .top) 0 ≡ 1 → ⊥) → (getD m (o .top) 0 ≡ 2 → ⊥) → (getD m (o .top) 0 ≡ 3 → ⊥)
-    → (getD m (o .top) 0 ≡ 6 → ⊥) → After x m n (Bad InvalidSignature)
-unfolding put
-put-none {x} {m} {o} n w f0 f1 f2 f3 f6 = go (w .stack) (w .is) (has-mark (w .takes .stands))
-  where
-    go : (k : Stack) → x ≡ put k (w .type) → getD m (o .top) 0 ≡ mark k → After x m n (Bad InvalidSignature)
-    go (needKey f k) i e = rw i refl
-    go (needEnd f c d k) i e = rw i refl
-    go (floor ts) i e = absurd (f0 e)
-    go (inArr k) i e = absurd (f6 e)
-    go (open0 k) i e = absurd (f1 e)
-    go (open1 fs k) i e = absurd (f2 e)
-    go (needVal f c k) i e = absurd (f3 e)
+  pub put-value : getD m (o .top) 0 ≡ 3 → o .top < 256 → o .top + o .types ≤ n → After x (set m (o .top) 4) n (To o)
+  unfolding Handler Held height structsIn arraysIn wholeIn fineIn put
+  put-value e b l = by-stack 3 e (set m (o .top) 4) (To o) (λ f c k h.
+      let s = h .stands in
+      swapped k (needEnd f c (w .type) k) 4 n m (s .long) (s .held .1) (s .top) (λ l x. x) refl (s .structs) (s .arrays) (s .types) (h .fine) b l)
+
+  -- where a key or a bracket is due, no type is taken
+  pub put-none : (getD m (o .top) 0 ≡ 0 → ⊥) → (getD m (o .top) 0 ≡ 1 → ⊥) → (getD m (o .top) 0 ≡ 2 → ⊥) → (getD m (o .top) 0 ≡ 3 → ⊥)
+      → (getD m (o .top) 0 ≡ 6 → ⊥) → After x m n (Bad InvalidSignature)
+  unfolding put
+  put-none f0 f1 f2 f3 f6 = go (w .stack) (w .is) (has-mark (w .takes .stands))
+    where
+      go : (k : Stack) → x ≡ put k (w .type) → getD m (o .top) 0 ≡ mark k → After x m n (Bad InvalidSignature)
+      go (needKey f k) i e = rw i refl
+      go (needEnd f c d k) i e = rw i refl
+      go (floor ts) i e = absurd (f0 e)
+      go (inArr k) i e = absurd (f6 e)
+      go (open0 k) i e = absurd (f1 e)
+      go (open1 fs k) i e = absurd (f2 e)
+      go (needVal f c k) i e = absurd (f3 e)
 
 -- a step that is refused
 pub refuses : {x : Step} {f : Fault} (m : List ℕ) (n : ℕ) → x ≡ bad f → After x m n (Bad f)
@@ -259,37 +250,16 @@ leaf-takes {k} {m} {o} {b} t l f e =
 
 -- a basic type where a key is due
 pub key-yes : {k : Stack} {m : List ℕ} {o : State} (b : Base) (n : ℕ) → Follows k m o → getD m (o .top) 0 ≡ 5 → isKey b ≡ true → o .top < 256 → o .top + o .types ≤ n → After (putBase k b) (set m (o .top) 3) n (To o)
-unfolding Held height structsIn arraysIn wholeIn fineIn putBase
-key-yes {k} {m} {o} b n f e y l q = go k f (the-mark (f .stands) e)
-  where
-    go : (k : Stack) → Follows k m o → mark k ≡ 5 → After (putBase k b) (set m (o .top) 3) n (To o)
-    go (needKey f k) h e =
-        let s = h .stands in
-        rw y (record {
-          state = o;
-          is = refl;
-          follows = record {
-            stands = record { long = simp length-set (s .long); held = marked k m (o .top) 3 (s .top) (omega (arith, s .long)) (s .held .1); top = s .top; structs = s .structs; arrays = s .arrays; types = s .types };
-            fine = h .fine;
-          };
-          small = q;
-        })
-    go (floor ts) h e = absurd (omega (arith, e))
-    go (inArr k) h e = absurd (omega (arith, e))
-    go (open0 k) h e = absurd (omega (arith, e))
-    go (open1 fs k) h e = absurd (omega (arith, e))
-    go (needVal f c k) h e = absurd (omega (arith, e))
-    go (needEnd f c d k) h e = absurd (omega (arith, e))
+unfolding Handler Held height structsIn arraysIn wholeIn fineIn putBase
+key-yes {k} {m} {o} b n f e y l q = by-mark (λ k. Follows k m o → After (putBase k b) (set m (o .top) 3) n (To o)) k 5 (the-mark (f .stands) e)
+    (λ g k h.
+    let s = h .stands in
+    rw y (swapped k (needVal g b k) 3 n m (s .long) (s .held .1) (s .top) (λ l x. x) refl (s .structs) (s .arrays) (s .types) (h .fine) l q))
+    f
 
 pub key-no : (k : Stack) (b : Base) → mark k ≡ 5 → isKey b ≡ false → putBase k b ≡ bad InvalidSignature
-unfolding putBase
-key-no (needKey f k) b e y = rw y
-key-no (floor ts) b e y = absurd (omega (arith, e))
-key-no (inArr k) b e y = absurd (omega (arith, e))
-key-no (open0 k) b e y = absurd (omega (arith, e))
-key-no (open1 fs k) b e y = absurd (omega (arith, e))
-key-no (needVal f c k) b e y = absurd (omega (arith, e))
-key-no (needEnd f c d k) b e y = absurd (omega (arith, e))
+unfolding Handler putBase
+key-no k b e y = by-mark (λ k. putBase k b ≡ bad InvalidSignature) k 5 e (λ f k. rw y)
 
 pub not-key : (k : Stack) (b : Base) → (mark k ≡ 5 → ⊥) → putBase k b ≡ put k (base b)
 unfolding putBase put
@@ -302,19 +272,10 @@ not-key (needVal f c k) b e = refl
 not-key (needEnd f c d k) b e = refl
 
 -- a type begins, or a key or a bracket is due
-pub no-begin : (k n : Stack) → (mark k ≡ 4) ⊎ (mark k ≡ 5) → begin k n ≡ bad InvalidSignature
-no-begin (needKey f k) n e = refl
-no-begin (needEnd f c d k) n e = refl
-no-begin (floor ts) n (inl e) = absurd (omega (arith, e))
-no-begin (floor ts) n (inr e) = absurd (omega (arith, e))
-no-begin (inArr k) n (inl e) = absurd (omega (arith, e))
-no-begin (inArr k) n (inr e) = absurd (omega (arith, e))
-no-begin (open0 k) n (inl e) = absurd (omega (arith, e))
-no-begin (open0 k) n (inr e) = absurd (omega (arith, e))
-no-begin (open1 fs k) n (inl e) = absurd (omega (arith, e))
-no-begin (open1 fs k) n (inr e) = absurd (omega (arith, e))
-no-begin (needVal f c k) n (inl e) = absurd (omega (arith, e))
-no-begin (needVal f c k) n (inr e) = absurd (omega (arith, e))
+no-begin : (k n : Stack) → (mark k ≡ 4) ⊎ (mark k ≡ 5) → begin k n ≡ bad InvalidSignature
+unfolding Handler
+no-begin k n (inl e) = by-mark (λ k. begin k n ≡ bad InvalidSignature) k 4 e (λ f c d k. refl)
+no-begin k n (inr e) = by-mark (λ k. begin k n ≡ bad InvalidSignature) k 5 e (λ f k. refl)
 
 can-begin : (k n : Stack) → (mark k ≡ 4 → ⊥) → (mark k ≡ 5 → ⊥) → begin k n ≡ to n
 can-begin (needKey f k) n e g = absurd (g refl)
@@ -336,16 +297,8 @@ module _ {k n : Stack} {v : ℕ} {m : List ℕ} {o : State} (b : Begins k n v m 
   pub begin-one : (z : ℕ) → (getD m (o .top) 0 ≡ 4 → ⊥) → (getD m (o .top) 0 ≡ 5 → ⊥) → o .top < 255 → o .top + 1 + o .types ≤ z → After (begin k n) (set m (o .top + 1) v) z (To (raised o))
   begin-one z e g l q =
       let w = mark-at k m (b .held) (b .top) in
-      let r = marked k m (o .top + 1) v (omega (arith, b .top)) (omega (arith, b .long)) (b .held) in
-      rw (can-begin k n (λ h. e (w ∙ h)) (λ h. g (w ∙ h))) (record {
-        state = raised o;
-        is = refl;
-        follows = record {
-          stands = record { long = simp length-set (b .long); held = b .marked (set m (o .top + 1) v) (r .1) (r .0); top = omega (arith, b .top, b .higher); structs = b .structs; arrays = b .arrays; types = b .types };
-          fine = b .fine;
-        };
-        small = q;
-      })
+      rw (can-begin k n (λ h. e (w ∙ h)) (λ h. g (w ∙ h)))
+      (swapped k n v z m (b .long) (b .held) (omega (arith, b .top)) (λ l h. b .marked l (h .1) (h .0)) (b .higher) (b .structs) (b .arrays) (b .types) (b .fine) (omega arith) q)
 
 -- one array more, or one struct
 abbrev pub deeper : State → State
@@ -375,27 +328,12 @@ module _ {k : Stack} {m : List ℕ} {o : State} (f : Follows k m o) where
 
 -- { after an array's mark is that array's dict
 pub curl-array : {k : Stack} {m : List ℕ} {o : State} (n : ℕ) → Follows k m o → getD m (o .top) 0 ≡ 6 → o .top < 256 → o .top + o .types ≤ n → After (curl k) (set m (o .top) 5) n (To o)
-unfolding Held height structsIn arraysIn wholeIn fineIn
-curl-array {k} {m} {o} n f e l q = go k f (the-mark (f .stands) e)
-  where
-    go : (k : Stack) → Follows k m o → mark k ≡ 6 → After (curl k) (set m (o .top) 5) n (To o)
-    go (inArr k) h e =
-        let s = h .stands in
-        record {
-          state = o;
-          is = refl;
-          follows = record {
-            stands = record { long = simp length-set (s .long); held = marked k m (o .top) 5 (s .top) (omega (arith, s .long)) (s .held .1); top = s .top; structs = s .structs; arrays = s .arrays; types = s .types };
-            fine = h .fine;
-          };
-          small = q;
-        }
-    go (floor ts) h e = absurd (omega (arith, e))
-    go (open0 k) h e = absurd (omega (arith, e))
-    go (open1 fs k) h e = absurd (omega (arith, e))
-    go (needKey f k) h e = absurd (omega (arith, e))
-    go (needVal f c k) h e = absurd (omega (arith, e))
-    go (needEnd f c d k) h e = absurd (omega (arith, e))
+unfolding Handler Held height structsIn arraysIn wholeIn fineIn
+curl-array {k} {m} {o} n f e l q = by-mark (λ k. Follows k m o → After (curl k) (set m (o .top) 5) n (To o)) k 6 (the-mark (f .stands) e)
+    (λ k h.
+    let s = h .stands in
+    swapped k (needKey inArray k) 5 n m (s .long) (s .held .1) (s .top) (λ l x. x) refl (s .structs) (s .arrays) (s .types) (h .fine) l q)
+    f
 
 pub curl-loose : (k : Stack) → (mark k ≡ 6 → ⊥) → curl k ≡ begin k (needKey loose k)
 curl-loose (inArr k) e = absurd (e refl)
@@ -410,46 +348,17 @@ curl-loose (needEnd f c d k) e = refl
 abbrev pub closed : State → State
 closed o = record { top = o .top - 1; structs = o .structs - 1; arrays = o .arrays; types = o .types; fine = o .fine }
 
-pub record Closes (x : Step) (m : List ℕ) (o : State) (n : ℕ) (left : State) : Type 0 where
-  pub above : 1 ≤ o .top
-  pub inside : 1 ≤ n
-  pub whole : Whole x m left
-
 pub close-fields : {k : Stack} {m : List ℕ} {o : State} → Follows k m o → getD m (o .top) 0 ≡ 2 → Closes (close k) m o (o .structs) (closed o)
-unfolding Held height structsIn arraysIn wholeIn fineIn
-close-fields {k} {m} {o} f e = go k f (the-mark (f .stands) e)
-  where
-    go : (k : Stack) → Follows k m o → mark k ≡ 2 → Closes (close k) m o (o .structs) (closed o)
-    go (open1 fs k) h e =
-        let s = h .stands in
-        record {
-          above = omega (arith, s .top);
-          inside = omega (arith, s .structs);
-          whole = record {
-            stack = k;
-            type = struct fs;
-            is = refl;
-            takes = record {
-              stands = record { long = s .long; held = s .held .1; top = omega (arith, s .top); structs = omega (arith, s .structs); arrays = s .arrays; types = s .types };
-              fine = h .fine ∙ ap (λ (b : Bool). fineIn k && b) (sym (nest-struct fs (structsIn k) (arraysIn k)));
-            };
-          };
-        }
-    go (floor ts) h e = absurd (omega (arith, e))
-    go (inArr k) h e = absurd (omega (arith, e))
-    go (open0 k) h e = absurd (omega (arith, e))
-    go (needKey f k) h e = absurd (omega (arith, e))
-    go (needVal f c k) h e = absurd (omega (arith, e))
-    go (needEnd f c d k) h e = absurd (omega (arith, e))
+unfolding Handler Held height structsIn arraysIn wholeIn fineIn
+close-fields {k} {m} {o} f e = by-mark (λ k. Follows k m o → Closes (close k) m o (o .structs) (closed o)) k 2 (the-mark (f .stands) e)
+    (λ fs k h.
+    let s = h .stands in
+    closes-below k (struct fs) m refl (omega (arith, s .top)) (omega (arith, s .structs)) (s .long) (s .held .1) (omega (arith, s .top)) (omega (arith, s .structs)) (s .arrays) (s .types) _ (nest-struct fs (structsIn k) (arraysIn k)) (h .fine))
+    f
 
 pub close-empty : (k : Stack) → mark k ≡ 1 → close k ≡ bad EmptyStruct
-close-empty (open0 k) e = refl
-close-empty (floor ts) e = absurd (omega (arith, e))
-close-empty (inArr k) e = absurd (omega (arith, e))
-close-empty (open1 fs k) e = absurd (omega (arith, e))
-close-empty (needKey f k) e = absurd (omega (arith, e))
-close-empty (needVal f c k) e = absurd (omega (arith, e))
-close-empty (needEnd f c d k) e = absurd (omega (arith, e))
+unfolding Handler
+close-empty k e = by-mark (λ k. close k ≡ bad EmptyStruct) k 1 e (λ k. refl)
 
 pub close-none : (k : Stack) → (mark k ≡ 2 → ⊥) → (mark k ≡ 1 → ⊥) → close k ≡ bad InvalidSignature
 close-none (open1 fs k) e g = absurd (e refl)
@@ -462,31 +371,12 @@ close-none (needEnd f c d k) e g = refl
 
 -- a bracket closes a dict with key and value
 pub uncurl-end : {k : Stack} {m : List ℕ} {o : State} → Follows k m o → getD m (o .top) 0 ≡ 4 → Closes (uncurl k) m o (o .arrays) (placed o (o .top - 1) (o .arrays - 1))
-unfolding Held height structsIn arraysIn wholeIn fineIn nest
-uncurl-end {k} {m} {o} f e = go k f (the-mark (f .stands) e)
-  where
-    go : (k : Stack) → Follows k m o → mark k ≡ 4 → Closes (uncurl k) m o (o .arrays) (placed o (o .top - 1) (o .arrays - 1))
-    go (needEnd f c d k) h e =
-        let s = h .stands in
-        record {
-          above = omega (arith, s .top);
-          inside = omega (arith, s .arrays);
-          whole = record {
-            stack = k;
-            type = dict f c d;
-            is = refl;
-            takes = record {
-              stands = record { long = s .long; held = s .held .1; top = omega (arith, s .top); structs = s .structs; arrays = omega (arith, s .arrays); types = s .types };
-              fine = h .fine ∙ ap (λ (b : Bool). fineIn k && b) (sym (nest-array d (structsIn k) (arraysIn k)));
-            };
-          };
-        }
-    go (floor ts) h e = absurd (omega (arith, e))
-    go (inArr k) h e = absurd (omega (arith, e))
-    go (open0 k) h e = absurd (omega (arith, e))
-    go (open1 fs k) h e = absurd (omega (arith, e))
-    go (needKey f k) h e = absurd (omega (arith, e))
-    go (needVal f c k) h e = absurd (omega (arith, e))
+unfolding Handler Held height structsIn arraysIn wholeIn fineIn nest
+uncurl-end {k} {m} {o} f e = by-mark (λ k. Follows k m o → Closes (uncurl k) m o (o .arrays) (placed o (o .top - 1) (o .arrays - 1))) k 4 (the-mark (f .stands) e)
+    (λ g c d k h.
+    let s = h .stands in
+    closes-below k (dict g c d) m refl (omega (arith, s .top)) (omega (arith, s .arrays)) (s .long) (s .held .1) (omega (arith, s .top)) (s .structs) (omega (arith, s .arrays)) (s .types) _ (nest-array d (structsIn k) (arraysIn k)) (h .fine))
+    f
 
 pub uncurl-none : (k : Stack) → (mark k ≡ 4 → ⊥) → uncurl k ≡ bad InvalidSignature
 uncurl-none (needEnd f c d k) e = absurd (e refl)

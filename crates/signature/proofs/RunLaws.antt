@@ -3,14 +3,14 @@ use Prim.Native.Nat.{ℕ, suc, _+_, _<_, _≤_}
 use native.Mathlib.Numerals.{add-one}
 use native.Mathlib.Omega.{arith}
 use mathlib.Core.Path.{_≡_, refl, ap, sym, subst, _∙_}
-use mathlib.Core.Bool.{Bool, true, false, _&&_, not}
+use mathlib.Core.Bool.{Bool, true, false, _&&_, _||_, not}
 use mathlib.Core.List.{List, [], _∷_}
 use lib.Dec.{eqb}
 use lib.ListN.{length, drop, getD, drop-of-length-le}
 use lib.Seq.{drop-cons}
 use borrow.Author.Tests.{le-leb, lt-leb, eq-eqb, ne-eqb}
 use Rattle.meaning.specs.Types.{loose, Ty, base, variant}
-use Rattle.meaning.specs.Signature.{nest, allNest, Tok, isBase, isArr, isVar, isOpen, isClose, isCurl, isUncurl, isBad, toks, find, Stack, floor, open0, open1, inArr, needKey, needVal, needEnd, Step, to, bad, put, putBase, step, run, finish, types, refused, parse}
+use Rattle.meaning.specs.Signature.{codeTok, nest, allNest, Tok, isBase, isArr, isVar, isOpen, isClose, isCurl, isUncurl, isBad, toks, find, Stack, floor, open0, open1, inArr, needKey, needVal, needEnd, Step, to, bad, put, putBase, step, run, finish, types, refused, parse}
 use Rattle.meaning.specs.ReadValue.{countedOf, checkSignature}
 use Rattle.meaning.specs.Faults.{refusal}
 use Rattle.meaning.specs.declared.Fault.{Fault}
@@ -22,7 +22,9 @@ use Rattle.types.proofs.Rule.{passes, passed}
 use Rattle.signature.specs.declared.State.{State}
 use Rattle.signature.specs.declared.Moved.{Moved}
 use Rattle.signature.specs.declared.Moved.the-variants.{To, Bad}
+use Rattle.signature.specs.Codes.{baseTok}
 use Rattle.signature.specs.Marks.{height, wholeIn, fineIn, Held, structsIn, arraysIn, Follows, After}
+use Rattle.signature.proofs.MarkLaws.{Handler, by-mark, at-floor}
 use Rattle.signature.proofs.CodeLaws.{same, same-is}
 
 -- what holds where i bytes of s are read: the rest of the run is the whole run
@@ -103,24 +105,14 @@ module _ {m : List ℕ} {o : State} where
   end-open (needEnd g c d k) f e = refl
 
   pub end-fine : (k : Stack) → Follows k m o → o .top ≡ 0 → o .fine ≡ true → countedOf (finish (to k)) ≡ Types (o .types)
-  unfolding height wholeIn fineIn
-  end-fine (floor ts) f e b = ap countedOf (floor-fine ts (sym (f .fine) ∙ b)) ∙ ap Types (sym (f .stands .types))
-  end-fine (open0 k) f e b = absurd (omega (arith, f .stands .top))
-  end-fine (open1 fs k) f e b = absurd (omega (arith, f .stands .top))
-  end-fine (inArr k) f e b = absurd (omega (arith, f .stands .top))
-  end-fine (needKey g k) f e b = absurd (omega (arith, f .stands .top))
-  end-fine (needVal g c k) f e b = absurd (omega (arith, f .stands .top))
-  end-fine (needEnd g c d k) f e b = absurd (omega (arith, f .stands .top))
+  unfolding Handler wholeIn fineIn
+  end-fine k f e b = by-mark (λ k. Follows k m o → countedOf (finish (to k)) ≡ Types (o .types)) k 0 (at-floor k (sym (f .stands .top) ∙ e))
+      (λ ts g. ap countedOf (floor-fine ts (sym (g .fine) ∙ b)) ∙ ap Types (sym (g .stands .types))) f
 
   pub end-deep : (k : Stack) → Follows k m o → o .top ≡ 0 → o .fine ≡ false → countedOf (finish (to k)) ≡ Refused (refusal NestingTooDeep 0)
-  unfolding height fineIn
-  end-deep (floor ts) f e b = ap countedOf (floor-deep ts (sym (f .fine) ∙ b))
-  end-deep (open0 k) f e b = absurd (omega (arith, f .stands .top))
-  end-deep (open1 fs k) f e b = absurd (omega (arith, f .stands .top))
-  end-deep (inArr k) f e b = absurd (omega (arith, f .stands .top))
-  end-deep (needKey g k) f e b = absurd (omega (arith, f .stands .top))
-  end-deep (needVal g c k) f e b = absurd (omega (arith, f .stands .top))
-  end-deep (needEnd g c d k) f e b = absurd (omega (arith, f .stands .top))
+  unfolding Handler fineIn
+  end-deep k f e b = by-mark (λ k. Follows k m o → countedOf (finish (to k)) ≡ Refused (refusal NestingTooDeep 0)) k 0 (at-floor k (sym (f .stands .top) ∙ e))
+      (λ ts g. ap countedOf (floor-deep ts (sym (g .fine) ∙ b))) f
 
 -- the length is looked at first
 pub too-long : (s : List ℕ) → 255 < length s → countedOf (parse s) ≡ Refused (refusal SignatureTooLong 0)
@@ -133,14 +125,7 @@ not-long s h = rw (le-leb (length s) 255 h, parse)
 
 -- a signature of one byte
 abbrev whole : Tok → Bool
-whole (isBase c) = true
-whole isArr = false
-whole isVar = true
-whole isOpen = false
-whole isClose = false
-whole isCurl = false
-whole isUncurl = false
-whole isBad = false
+whole q = baseTok q || eqb (codeTok q) 118
 
 abbrev alone : Bool → Counted
 alone true = Types 1

@@ -21,7 +21,7 @@ const MOST: usize = 255;
 // A type under this many structs, or this many arrays, lies too deep (K3).
 const NESTING: usize = 32;
 
-// What stands open at a place of the signature, one mark for each.
+// What stands open at a place of the signature, one mark for each. Nothing: the first place of the row.
 const FLOOR: u8 = 0;
 // A struct with no field yet.
 const EMPTY: u8 = 1;
@@ -46,11 +46,13 @@ struct State {
     fine: bool,
 }
 
+// What a byte leads to.
 enum Moved {
     To(State),
     Bad(Fault),
 }
 
+// Whether a type may lie under so many structs and arrays.
 fn shallow(structs: usize, arrays: usize) -> bool
     ensures { λ r. ⌜ r ≡ shallowAt structs arrays ⌝ }
 {
@@ -164,6 +166,7 @@ fn curl(marks: &mut [u8; 256], mut state: State) -> Moved
     begin(marks, state, KEY)
 }
 
+// `)` closes a struct, which has at least one field.
 fn close(marks: &mut [u8; 256], mut state: State) -> Moved
     requires { ⌜ Ready (now marks) state ⌝ }
     ensures { λ r. ⌜ ((k : Stack) → Follows k (now (marks .entry)) state → After (closeStep k) (now (marks .exit)) (state .top + state .types + 1) r) ⌝ }
@@ -181,6 +184,7 @@ fn close(marks: &mut [u8; 256], mut state: State) -> Moved
     Moved::Bad(Fault::InvalidSignature)
 }
 
+// `}` closes a dict once its values' type is read.
 fn uncurl(marks: &mut [u8; 256], mut state: State) -> Moved
     requires { ⌜ Ready (now marks) state ⌝ }
     ensures { λ r. ⌜ ((k : Stack) → Follows k (now (marks .entry)) state → After (uncurlStep k) (now (marks .exit)) (state .top + state .types + 1) r) ⌝ }

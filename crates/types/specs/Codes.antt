@@ -14,6 +14,17 @@ alignTok isCurl = 0
 alignTok isUncurl = 0
 alignTok isBad = 0
 
+-- something of a basic type, or what stands for any other
+abbrev pub onBase : {A : Type 0} → (Base → A) → A → Tok → A
+onBase f d (isBase c) = f c
+onBase f d isArr = d
+onBase f d isVar = d
+onBase f d isOpen = d
+onBase f d isClose = d
+onBase f d isCurl = d
+onBase f d isUncurl = d
+onBase f d isBad = d
+
 -- 0 where values of the type differ in size
 abbrev pub sizeBase : Base → ℕ
 sizeBase (fix c) = size c
@@ -22,14 +33,7 @@ sizeBase path = 0
 sizeBase sig = 0
 
 abbrev pub sizeTok : Tok → ℕ
-sizeTok (isBase c) = sizeBase c
-sizeTok isArr = 0
-sizeTok isVar = 0
-sizeTok isOpen = 0
-sizeTok isClose = 0
-sizeTok isCurl = 0
-sizeTok isUncurl = 0
-sizeTok isBad = 0
+sizeTok q = onBase sizeBase 0 q
 
 unfoldable pub alignCode : ℕ → ℕ
 alignCode x = alignTok (find toks x)

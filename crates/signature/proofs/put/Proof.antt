@@ -4,7 +4,7 @@ use native.Mathlib.Omega.{arith}
 use borrow.Author.Needs.{needs}
 use Rattle.meaning.specs.Signature.{Step}
 use Rattle.signature.specs.Marks.{Whole}
-use Rattle.signature.proofs.MarkLaws.{placed, in-array, unarray, put-floor, put-empty, put-fields, put-value, put-none}
+use Rattle.signature.proofs.MarkLaws.{placed, unarray, put-floor, put-empty, put-fields, put-value, put-none}
 use Rattle.signature.proofs.put.Statement.{statement}
 use Rattle.signature.proofs.put.Tie as tie
 
@@ -21,16 +21,16 @@ element-copy-out-if1 : tie.Need-element-copy-out-if1 Inv-loop μ-loop
 element-copy-out-if1 c = omega (arith, c .before .pre .room)
 
 sub-top : tie.Need-sub-top Inv-loop μ-loop
-sub-top c = in-array (c .before .before .loop .inv .1 _ (c .before .before .before .pre .whole)) (c .if1 .taken) .0
+sub-top c = unarray (c .before .before .loop .inv .1 _ (c .before .before .before .pre .whole)) (c .if1 .taken) .above
 
 sub-arrays : tie.Need-sub-arrays Inv-loop μ-loop
-sub-arrays c = in-array (c .before .before .loop .inv .1 _ (c .before .before .before .pre .whole)) (c .if1 .taken) .1
+sub-arrays c = unarray (c .before .before .loop .inv .1 _ (c .before .before .before .pre .whole)) (c .if1 .taken) .inside
 
 loop-less : tie.Need-loop-less Inv-loop μ-loop
-loop-less c = omega (arith, in-array (c .before .before .loop .inv .1 _ (c .before .before .before .pre .whole)) (c .if1 .taken) .0)
+loop-less c = omega (arith, unarray (c .before .before .loop .inv .1 _ (c .before .before .before .pre .whole)) (c .if1 .taken) .above)
 
 loop-again : tie.Need-loop-again Inv-loop μ-loop
-loop-again c = (omega arith, λ x w. unarray (c .before .before .loop .inv .1 x w) (c .if1 .taken))
+loop-again c = (omega arith, λ x w. unarray (c .before .before .loop .inv .1 x w) (c .if1 .taken) .whole)
 
 element-copy-out-mark : tie.Need-element-copy-out-mark Inv-loop μ-loop
 element-copy-out-mark c = omega (arith, c .before .before .before .pre .room)
