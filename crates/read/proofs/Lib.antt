@@ -1,0 +1,4 @@
+pub mod Signs
+pub mod FixedTypes
+pub mod Ways
+pub mod Exact
