@@ -1,12 +1,11 @@
 -- A value that is read has exactly the bits of the wire, at the first place of its alignment. Of a double or a NaN this is said of the 64 bits of
 -- the answer itself.
-use Prim.Native.Nat.{ℕ, _+_, _^_, _≤_, _<_}
+use Prim.Native.Nat.{ℕ, _+_, _^_, _<_}
 use native.Mathlib.Omega.{arith}
 use mathlib.Core.Bool.{Bool, true, false}
 use mathlib.Core.List.{List, [], _∷_}
 use mathlib.Core.Path.{_≡_, refl, ap, sym, subst, _∙_}
-use lib.ListN.{length, take, drop, length-drop}
-use lib.Seq.{length-take-le}
+use lib.ListN.{length, take, drop}
 use lib.Ieee.{binary64, nanBits, ofBits, toBits}
 use lib.Ieee.Bits.{nanBits-is, toBits-ofBits}
 use Rattle.meaning.specs.Types.{Fix, dbl, fix, size}
@@ -14,7 +13,7 @@ use Rattle.meaning.specs.Number.{load, gap}
 use Rattle.meaning.specs.Signature.{codeFix}
 use Rattle.meaning.specs.Text.{pick}
 use Rattle.meaning.specs.Faults.{refusal}
-use Rattle.meaning.specs.Reader.{Res, got, fault, R, ret, here, _>>=_, _>>_, check, bytes}
+use Rattle.meaning.specs.Reader.{Res, got, fault, R, ret, _>>=_, _>>_, check, bytes}
 use Rattle.meaning.specs.ReadValue.{valid, padding, readFix, bareR, baseR}
 use Rattle.meaning.specs.FixedValue.{fixedValue, fixedFrom, readFixed}
 use Rattle.meaning.specs.declared.Order.{Order}

@@ -1,19 +1,17 @@
 -- Which signatures name a fixed type: those of one byte whose code has a fixed size in the table.
 use Prim.Native.Nat.{ℕ, _^_, _<_}
 use native.Mathlib.Omega.{arith}
-use mathlib.Core.Bool.{Bool, true, false}
+use mathlib.Core.Bool.{true}
 use mathlib.Core.List.{List, [], _∷_}
 use mathlib.Core.Path.{_≡_, refl, ap, sym, subst, _∙_}
-use lib.Dec.{T, lit≤}
 use lib.ListN.{length, getD}
-use Rattle.meaning.specs.Types.{Fix, byte, bool, i16, u16, i32, u32, i64, u64, dbl, fd, Base, fix, str, path, sig, Ty, base, arr, dict, struct, variant, size}
-use Rattle.meaning.specs.Signature.{codeFix, code, Tok, isBase, isArr, isVar, isOpen, isClose, isCurl, isUncurl, isBad, toks, find, floor, putBase, put, step, run, finish, Parsed, types, refused, parse, spell, spellAll, allLegal, legal, shape, nest, allNest}
-use Rattle.meaning.specs.ReadValue.{Opt, the, not1, onlyOne, valid}
-use Rattle.meaning.specs.FixedValue.{OptFix, theFix, notFix, onlyFix, fixedValue}
+use Rattle.meaning.specs.Types.{Fix, byte, bool, i16, u16, i32, u32, i64, u64, dbl, fd, fix, str, path, sig, Ty, base, arr, dict, struct, variant, size}
+use Rattle.meaning.specs.Signature.{codeFix, Tok, isBase, isArr, isVar, isOpen, isClose, isCurl, isUncurl, isBad, toks, find, putBase, put, step, run, Parsed, types, refused, parse, spell, spellAll, nest, allNest}
+use Rattle.meaning.specs.ReadValue.{the, onlyOne, valid}
+use Rattle.meaning.specs.FixedValue.{OptFix, theFix, notFix, onlyFix}
 use Rattle.meaning.proofs.SignatureLaws.{find-base, parse-sound}
 use Rattle.types.specs.Codes.{sizeCode, sizeTok}
 use Rattle.types.proofs.CodeLaws.{size-fix}
-use Rattle.meaning.specs.declared.FixedValue.{FixedValue}
 use Rattle.read.specs.Coded.{Coded, Holds}
 
 -- no two types have one code

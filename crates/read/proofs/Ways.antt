@@ -1,30 +1,27 @@
 -- `readFixed` by the ways through the code.
-use Prim.Native.Nat.{ℕ, _+_, _-_, _^_, _≤_, _<_}
+use Prim.Native.Nat.{ℕ, _+_, _-_, _≤_, _<_}
 use native.Mathlib.Omega.{arith}
-use mathlib.Core.Bool.{Bool, true, false}
+use mathlib.Core.Bool.{true, false}
 use mathlib.Core.List.{List}
-use mathlib.Core.Path.{_≡_, refl, ap, sym, subst, _∙_}
-use lib.Dec.{T}
-use lib.ListN.{length, take, drop}
+use mathlib.Core.Path.{_≡_, ap, sym, _∙_}
+use lib.ListN.{length, take}
 use lib.Seq.{take-length}
 use Rattle.meaning.specs.Types.{Fix, fix, size}
 use Rattle.meaning.specs.Number.{load}
 use Rattle.meaning.specs.Faults.{refusal}
-use Rattle.meaning.specs.Reader.{Res, got, fault, stop, R, ret, here, _>>=_, _>>_, check, bytes, reachedOf}
+use Rattle.meaning.specs.Reader.{Res, got, fault, stop, R, ret, _>>=_, _>>_, check, bytes, reachedOf}
 use Rattle.meaning.specs.ReadValue.{valid, padding, readFix, bareR, baseR}
-use Rattle.meaning.specs.FixedValue.{theFix, notFix, onlyFix, fixedValue, fixedFrom, readFixed}
+use Rattle.meaning.specs.FixedValue.{theFix, notFix, fixedValue, fixedFrom, readFixed}
 use Rattle.meaning.specs.declared.Order.{Order}
 use Rattle.meaning.specs.declared.Place.{Place}
 use Rattle.meaning.specs.declared.Refusal.{Refusal}
-use Rattle.meaning.specs.declared.Fault.{Fault}
 use Rattle.meaning.specs.declared.Fault.the-variants.{BadOffset, NotEnoughBytes, InvalidBoolean, BadArgument}
-use Rattle.meaning.specs.declared.Reached.{Reached}
 use Rattle.meaning.specs.declared.Reached.the-variants.{At, Refused as Stopped}
 use Rattle.meaning.specs.declared.FixedValue.{FixedValue}
 use Rattle.meaning.specs.declared.FixedRead.{FixedRead}
 use Rattle.meaning.specs.declared.FixedRead.the-variants.{Read, Refused}
 use Rattle.meaning.proofs.Local.{bytes-yes, bytes-no, bind-got, bind-fault, leb-true, leb-false}
-use Rattle.meaning.proofs.Meets.{here-bind, check-bind}
+use Rattle.meaning.proofs.Meets.{here-bind}
 use Rattle.util.specs.Loaded.{Loaded}
 use Rattle.read.proofs.FixedTypes.{named}
 

@@ -1,7 +1,7 @@
 -- The tests are those of `readFix`, in its order, at the width that the table gives for the code.
-use Prim.Native.Nat.{ℕ, _^_, _<_}
+use Prim.Native.Nat.{ℕ}
 use native.Mathlib.Omega.{arith}
-use mathlib.Core.Path.{_≡_, sym, subst, _∙_}
+use mathlib.Core.Path.{sym, subst, _∙_}
 use lib.Dec.{T}
 use Rattle.meaning.specs.Writers.{isAlignment}
 use Rattle.types.proofs.CodeLaws.{size-is-alignment}

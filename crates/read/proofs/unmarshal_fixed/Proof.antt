@@ -1,7 +1,7 @@
 -- The tests are those of `readFixed`, in its order; the one byte of the signature and its size in the table tell the type.
 use native.Mathlib.Omega.{arith}
 use Prim.Native.Nat.{ℕ}
-use mathlib.Core.Path.{_≡_, sym, subst, _∙_}
+use mathlib.Core.Path.{sym, subst, _∙_}
 use lib.Dec.{T}
 use Rattle.meaning.specs.ReadValue.{padding}
 use Rattle.meaning.specs.Writers.{isAlignment}

@@ -1,6 +1,6 @@
 -- In each arm the code is that of one type, whose value it makes; the last arm is left with the only code that no other arm took.
 use native.Mathlib.Omega.{arith}
-use mathlib.Core.Path.{_≡_, refl, ap, _∙_}
+use mathlib.Core.Path.{refl, ap, _∙_}
 use mir.Syntax.{w16, w32, w64}
 use mir.Facts.{toZ-ofZ}
 use Rattle.meaning.specs.Types.{byte, bool, i16, u16, i32, u32, i64, u64, dbl, fd}
