@@ -99,7 +99,7 @@ pub fn load64(order: Order, buf: &[u8], at: usize) -> u64
 }
 
 // How many bytes lead to the next multiple. No division by a variable: `align` is one of four.
-fn gap(align: usize, off: usize) -> usize
+pub fn gap(align: usize, off: usize) -> usize
     requires { ⌜ T (isAlignment align) ⌝ }
     ensures { λ r. ⌜ r ≡ gapOf align off ⌝ }
 {
@@ -163,7 +163,7 @@ pub fn taken_from(off: usize, reached: Reached) -> Checked
     }
 }
 
-fn is_alignment(align: usize) -> bool
+pub fn is_alignment(align: usize) -> bool
     ensures { λ r. ⌜ r ≡ isAlignment align ⌝ }
 {
     if align == 1 {

@@ -1,0 +1,4 @@
+pub mod Stores
+pub mod Writes
+pub mod Contents
+pub mod Back

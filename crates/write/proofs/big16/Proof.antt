@@ -1,0 +1,46 @@
+-- Two bytes are two halves of one byte each.
+use native.Mathlib.Omega.{arith}
+use mathlib.Core.Path.{refl}
+use lib.ListN.{length-set}
+use Rattle.meaning.specs.Number.{digits, store}
+use Rattle.meaning.specs.declared.Order.the-variants.{Big}
+use Rattle.write.proofs.Stores.{halves}
+use borrow.Author.Needs.{needs}
+use Rattle.write.proofs.big16.Statement.{statement}
+use Rattle.write.proofs.big16.Tie as tie
+
+low-requires : tie.Need-low-requires
+low-requires c κs = search needs
+
+slice-write-buf : tie.Need-slice-write-buf
+slice-write-buf c = search needs
+
+low-requires-2 : tie.Need-low-requires-2
+low-requires-2 c κs = search needs
+
+add-buf : tie.Need-add-buf
+add-buf c = search needs
+
+slice-write-buf-2 : tie.Need-slice-write-buf-2
+slice-write-buf-2 c = simp length-set (omega arith)
+
+same-length : tie.Need-same-length
+same-length c = search needs
+
+returns : tie.Need-returns
+unfolding store digits
+returns c =
+    let a = c .before .before .before .args in
+    rw (c .before .low .ensures, c .low2 .ensures) (halves Big 1 (a .buf .now) (a .at) (a .x) _ _ refl refl)
+
+pub big16-spec : {M : Type 1} → statement M
+big16-spec =
+    tie.close
+    (tie.spec
+    low-requires
+    slice-write-buf
+    low-requires-2
+    add-buf
+    slice-write-buf-2
+    same-length
+    returns)

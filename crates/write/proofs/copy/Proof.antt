@@ -1,0 +1,65 @@
+-- The loop's invariant: what is left to store leads to what all of it leads to.
+use Prim.Native.Nat.{_≤_, _+_, _-_}
+use native.Mathlib.Omega.{arith}
+use mathlib.Core.Path.{_≡_, refl}
+use mathlib.Core.List.{[]}
+use lib.ListN.{length, drop, length-set, drop-of-length-le}
+use lib.Seq.{sets}
+use Rattle.write.proofs.Stores.{turn}
+use Rattle.write.proofs.copy.Statement.{statement}
+use Rattle.write.proofs.copy.Tie as tie
+
+abbrev Inv-loop : tie.InvT-loop
+Inv-loop buf₀ at val i₀ buf i = (i ≤ length val) × (length buf ≡ length buf₀) × (sets buf (at + i) (drop i val) ≡ sets buf₀ at val)
+
+abbrev μ-loop : tie.MeasureT-loop
+μ-loop buf₀ at val i₀ buf i = length val - i
+
+loop-holds : tie.Need-loop-holds Inv-loop μ-loop
+loop-holds c = let f : c .args .at + 0 ≡ c .args .at = omega arith in rw f (omega arith, refl, refl)
+
+shared-slice-read-buf : tie.Need-shared-slice-read-buf Inv-loop μ-loop
+shared-slice-read-buf c = omega arith
+
+add-buf : tie.Need-add-buf Inv-loop μ-loop
+add-buf c = omega arith
+
+slice-write-buf : tie.Need-slice-write-buf Inv-loop μ-loop
+slice-write-buf c = omega arith
+
+add-i : tie.Need-add-i Inv-loop μ-loop
+add-i c = omega arith
+
+loop-less : tie.Need-loop-less Inv-loop μ-loop
+loop-less c = omega arith
+
+loop-again : tie.Need-loop-again Inv-loop μ-loop
+loop-again c = (
+  omega arith,
+  simp length-set (c .before .before .loop .inv .1),
+  turn _ _ (c .before .before .before .args .val .now) (c .before .before .before .args .at) (c .before .before .loop .i) _ (omega arith) refl (c .before .before .loop .inv .2),
+)
+
+same-length : tie.Need-same-length Inv-loop μ-loop
+same-length c = c .before .loop .inv .1
+
+returns : tie.Need-returns Inv-loop μ-loop
+returns c =
+    let e : drop (c .before .loop .i) (c .before .before .args .val .now) ≡ [] = drop-of-length-le (c .before .before .args .val .now) {i = c .before .loop .i} (omega arith) in
+    rw e at (c .before .loop .inv .2)
+
+pub copy-spec : {M : Type 1} → statement M
+copy-spec =
+    tie.close
+    (tie.spec
+    Inv-loop
+    μ-loop
+    loop-holds
+    shared-slice-read-buf
+    add-buf
+    slice-write-buf
+    add-i
+    loop-less
+    loop-again
+    same-length
+    returns)
