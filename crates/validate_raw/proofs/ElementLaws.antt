@@ -1,11 +1,12 @@
 -- What the first byte of an element's type says of an array: the elements' alignment, and whether their number is all that is tested.
 use Prim.Native.Nat.{ℕ, zero, suc, _+_, _<_}
 use native.Mathlib.Omega.{arith}
-use mathlib.Core.Bool.{Bool, true, false}
+use mathlib.Core.Bool.{Bool, true, false, _||_}
 use mathlib.Core.List.{List, [], _∷_, _++_}
 use mathlib.Core.Path.{_≡_, refl, ap, sym, subst, _∙_}
 use lib.ListN.{length, getD}
 use lib.Dec.{eqb, T}
+use borrow.Author.Tests.{eq-eqb}
 use Rattle.meaning.specs.Types.{Fix, byte, bool, i16, u16, i32, u32, i64, u64, dbl, fd, Base, fix, str, path, sig, Form, inArray, loose, Ty, base, arr, dict, struct, variant, Tys, size, align, whole}
 use Rattle.meaning.specs.Signature.{code, spell, notLoose, find, opening}
 use Rattle.meaning.specs.Writers.{isAlignment}
@@ -14,7 +15,7 @@ use Rattle.meaning.specs.Places.{Spelled, TypeAt, Typed}
 use Rattle.meaning.proofs.PlaceLaws.{Head, spelled-head}
 use Rattle.types.specs.Codes.{alignCode, sizeCode}
 use Rattle.types.proofs.CodeLaws.{align-first, is-alignment}
-use Rattle.validate_raw.specs.Walk.{wholeCode}
+use Rattle.validate_raw.specs.Walk.{wholeCode, composite}
 
 -- the first byte of a type's spelling
 abbrev firstOf : Ty → ℕ
@@ -82,3 +83,28 @@ tested-by variant h = singly refl refl
 
 pub tested : {t : Ty} {s : List ℕ} {p e : ℕ} → TypeAt t s p e → (getD s p 0 ≡ 123 → ⊥) → Tested t (wholeCode (getD s p 0))
 tested {t} h other = subst (λ (k : ℕ). Tested t (wholeCode k)) (sym (first-byte h)) (tested-by t (element h other))
+
+-- a code that begins no composite type is none of the four
+pub basic : {k : ℕ} → composite k ≡ false → (k ≡ 97 → ⊥) × (k ≡ 40 → ⊥) × (k ≡ 123 → ⊥) × (k ≡ 118 → ⊥)
+unfolding composite
+basic {k} h = (λ e. no (rw (eq-eqb k 97 e) at h), λ e. no (second (eqb k 97) (eqb k 40) _ (eq-eqb k 40 e) h), λ e. no (third (eqb k 97) (eqb k 40) (eqb k 123) _ (eq-eqb k 123 e) h), λ e. no (fourth (eqb k 97) (eqb k 40) (eqb k 123) (eqb k 118) (eq-eqb k 118 e) h))
+  where
+    no : true ≡ false → ⊥
+    no z = subst T z tt
+
+    second : (a b c : Bool) → b ≡ true → (a || (b || c)) ≡ false → true ≡ false
+    second true b c e z = z
+    second false true c e z = z
+    second false false c e z = sym e
+
+    third : (a b c d : Bool) → c ≡ true → (a || (b || (c || d))) ≡ false → true ≡ false
+    third true b c d e z = z
+    third false true c d e z = z
+    third false false true d e z = z
+    third false false false d e z = sym e
+
+    fourth : (a b c d : Bool) → d ≡ true → (a || (b || (c || d))) ≡ false → true ≡ false
+    fourth true b c d e z = z
+    fourth false true c d e z = z
+    fourth false false true d e z = z
+    fourth false false false d e z = sym e ∙ z

@@ -11,7 +11,7 @@ ghost use Rattle.meaning.specs.Reader.{many, reachedOf};
 ghost use Rattle.meaning.specs.ReadValue.{padding, readFix, readG, bareR, baseR, arrayR, read, readVar, checkValue};
 ghost use Rattle.meaning.specs.Writers.{isAlignment};
 ghost use Rattle.util.specs.Entry.{Window};
-ghost use Rattle.validate_raw.specs.Walk.{spelledR, speltOf, walkedOf, walkedTo, lyingR, headR, openedOf, entryR, InnerIs, fieldsTo, BaseCode, AnyBits, wholeCode, Element};
+ghost use Rattle.validate_raw.specs.Walk.{spelledR, speltOf, walkedOf, walkedTo, lyingR, headR, openedOf, entryR, InnerIs, fieldsTo, BaseCode, AnyBits, Further, wholeCode, Element, composite};
 use meaning::Checked;
 use meaning::Counted;
 use meaning::Fault;
@@ -95,6 +95,21 @@ fn whole(k: u8) -> usize
     }
 }
 
+// Whether a type begins with this code that is no basic type.
+fn is_composite(k: u8) -> bool
+    ensures { λ r. ⌜ r ≡ composite k ⌝ }
+{
+    if k == b'a' {
+        true
+    } else if k == b'(' {
+        true
+    } else if k == b'{' {
+        true
+    } else {
+        k == b'v'
+    }
+}
+
 // A number of `size` bytes of which any bits are a value.
 fn fixed(buf: &[u8], end: usize, off: usize, size: usize) -> Reached
     requires { ⌜ Window (now buf) end off ⌝ }
@@ -153,29 +168,59 @@ fn signature_value(buf: &[u8], end: usize, off: usize) -> Reached
     }
 }
 
-// A basic value without its padding, by the code of its type.
+// The basic values that are tested further: texts and Booleans.
 fn bare(order: Order, k: u8, buf: &[u8], end: usize, off: usize) -> Reached
     requires { ⌜ Window (now buf) end off ⌝ }
-    ensures { λ r. ⌜ ((c : Base) → k ≡ code c → r ≡ reachedOf (bareR order c (take end (now (buf .entry))) off)) ⌝ }
+    ensures { λ r. ⌜ ((c : Base) → k ≡ code c → Further c → r ≡ reachedOf (bareR order c (take end (now (buf .entry))) off)) ⌝ }
 {
     match k {
         b's' => text::read_string(order, buf, end, off),
         b'o' => text::read_path(order, buf, end, off),
         b'g' => signature_value(buf, end, off),
-        b'b' => boolean(order, buf, end, off),
-        _ => fixed(buf, end, off, types::size(k)),
+        _ => boolean(order, buf, end, off),
     }
 }
 
-// A basic value, by the code of its type.
+fn tested(order: Order, k: u8, buf: &[u8], end: usize, off: usize) -> Reached
+    requires { ⌜ BaseCode k ⌝ }
+    requires { ⌜ Window (now buf) end off ⌝ }
+    ensures { λ r. ⌜ ((c : Base) → k ≡ code c → Further c → r ≡ reachedOf (baseR order c (take end (now (buf .entry))) off)) ⌝ }
+{
+    match util::padded(buf, end, off, types::align(k)) {
+        Reached::At(place) => bare(order, k, buf, end, place.0),
+        Reached::Refused(refusal) => Reached::Refused(refusal),
+    }
+}
+
+// A number of `size` bytes, aligned to them, of which any bits are a value.
+fn number(buf: &[u8], end: usize, off: usize, size: usize) -> Reached
+    requires { ⌜ Window (now buf) end off ⌝ }
+    requires { ⌜ T (isAlignment size) ⌝ }
+    ensures { λ r. ⌜ ((o : Order) (c : Fix) → AnyBits c → size ≡ sizeOf c → r ≡ reachedOf (baseR o (Base.fix c) (take end (now (buf .entry))) off)) ⌝ }
+{
+    match util::padded(buf, end, off, size) {
+        Reached::At(place) => fixed(buf, end, place.0, size),
+        Reached::Refused(refusal) => Reached::Refused(refusal),
+    }
+}
+
+// A basic value, by the code of its type. Where the code is known the table is read at one place, which the compiler does once and for all.
 pub fn base(order: Order, k: u8, buf: &[u8], end: usize, off: usize) -> Reached
     requires { ⌜ BaseCode k ⌝ }
     requires { ⌜ Window (now buf) end off ⌝ }
     ensures { λ r. ⌜ ((c : Base) → k ≡ code c → r ≡ reachedOf (baseR order c (take end (now (buf .entry))) off)) ⌝ }
 {
-    match util::padded(buf, end, off, types::align(k)) {
-        Reached::At(place) => bare(order, k, buf, end, place.0),
-        Reached::Refused(refusal) => Reached::Refused(refusal),
+    match k {
+        b'y' => number(buf, end, off, types::size(b'y')),
+        b'n' => number(buf, end, off, types::size(b'n')),
+        b'q' => number(buf, end, off, types::size(b'q')),
+        b'i' => number(buf, end, off, types::size(b'i')),
+        b'u' => number(buf, end, off, types::size(b'u')),
+        b'x' => number(buf, end, off, types::size(b'x')),
+        b't' => number(buf, end, off, types::size(b't')),
+        b'd' => number(buf, end, off, types::size(b'd')),
+        b'h' => number(buf, end, off, types::size(b'h')),
+        _ => tested(order, k, buf, end, off),
     }
 }
 
@@ -307,11 +352,7 @@ fn elements(
         r ≡ walkedOf e (many (stop - first) (read order (readVar order levels) t) (take stop (now (buf .entry))) first)) ⌝ }
 {
     let k = sig[at];
-    if k == b'a' {
-        composites(order, sig, at, buf, stop, first, levels)
-    } else if k == b'(' {
-        composites(order, sig, at, buf, stop, first, levels)
-    } else if k == b'v' {
+    if is_composite(k) {
         composites(order, sig, at, buf, stop, first, levels)
     } else {
         match basics(order, k, buf, stop, first) {
@@ -437,6 +478,32 @@ fn entry(
     }
 }
 
+// What `value` answers. Most fields are basic values, and asking for those here spares the call of the whole walk.
+fn field(
+    order: Order,
+    sig: &[u8],
+    at: usize,
+    buf: &[u8],
+    end: usize,
+    off: usize,
+    levels: usize,
+) -> Walked
+    requires { ⌜ Typed (now sig) at ⌝ }
+    requires { ⌜ Window (now buf) end off ⌝ }
+    ensures { λ r. ⌜ ((t : Ty) (e : ℕ) → TypeAt t (now (sig .entry)) at e →
+        r ≡ walkedOf e (read order (readVar order levels) t (take end (now (buf .entry))) off)) ⌝ }
+{
+    let k = sig[at];
+    if is_composite(k) {
+        value(order, sig, at, buf, end, off, levels)
+    } else {
+        match base(order, k, buf, end, off) {
+            Reached::At(place) => Walked::Past(at + 1, place.0),
+            Reached::Refused(refusal) => Walked::Refused(refusal),
+        }
+    }
+}
+
 // The fields of a struct, whose types are at `at`, up to its bracket.
 fn fields(
     order: Order,
@@ -455,7 +522,7 @@ fn fields(
     let mut i = at;
     let mut o = off;
     while sig[i] != b')' {
-        match value(order, sig, i, buf, end, o, levels) {
+        match field(order, sig, i, buf, end, o, levels) {
             Walked::Past(n, p) => {
                 i = n;
                 o = p;

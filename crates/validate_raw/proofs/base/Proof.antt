@@ -1,59 +1,132 @@
--- The padding by the table, and then the value.
-use mathlib.Core.Path.{_≡_, sym, _∙_, ap}
-use native.Mathlib.Omega.{arith}
-use lib.Seq.{length-take-le}
-use mathlib.Core.Path.{subst}
-use Prim.Native.Nat.{ℕ}
-use lib.Dec.{T}
-use Rattle.meaning.specs.Writers.{isAlignment}
-use Rattle.meaning.specs.Reader.{reachedOf}
-use Rattle.meaning.specs.ReadValue.{padding}
-use Rattle.types.specs.Codes.{alignCode}
-use Rattle.types.proofs.CodeLaws.{align-base, base-is-alignment}
-use Rattle.validate_raw.proofs.OpenLaws.{padded-within}
-use Rattle.validate_raw.proofs.BaseLaws.{base-stop, base-bare, base-padding}
+-- The code says which basic type it is: a number has the size that the table gives, and anything else is tested further.
+use Rattle.meaning.specs.Types.{byte, i16, u16, i32, u32, i64, u64, dbl, fd}
+use Rattle.validate_raw.proofs.BaseLaws.{size-aligns, as-number, further, none-of}
 use borrow.Author.Needs.{needs}
 use Rattle.validate_raw.proofs.base.Statement.{statement}
 use Rattle.validate_raw.proofs.base.Tie as tie
 use Rattle.validate_raw.proofs.base.Reads as reads
 use Rattle.validate_raw.proofs.base.Lts as lts
-use Rattle.types.proofs.align.Reads as align-reads
-use Rattle.util.proofs.padded.Reads as padded-reads
-use Rattle.validate_raw.proofs.bare.Reads as bare-reads
+use Rattle.types.proofs.size.Reads as size-reads
+use Rattle.validate_raw.proofs.number.Reads as number-reads
+use Rattle.validate_raw.proofs.tested.Reads as tested-reads
 
-align-requires : tie.Need-align-requires
-align-requires c κs = search needs
+size-requires : tie.Need-size-requires
+size-requires c κs = search needs
 
-padded-requires : tie.Need-padded-requires
-padded-requires c κs =
-    let b = c .before .before .pre .0 in
-    (c .before .before .pre .1, subst (λ (n : ℕ). T (isAlignment n)) (sym (c .align .ensures ∙ ap alignCode (b .is) ∙ align-base (b .of))) (base-is-alignment (b .of)))
+number-requires : tie.Need-number-requires
+number-requires c κs = (c .before .before .before .pre .1, size-aligns byte _ (c .size .ensures))
 
-enum-known-place : tie.Need-enum-known-place
-enum-known-place c = search needs
+size-requires-2 : tie.Need-size-requires-2
+size-requires-2 c κs = search needs
 
-bare-requires : tie.Need-bare-requires
-bare-requires c κs =
-    let r = padded-within _ _ _ _ _ _ (c .before .before .before .before .before .before .pre .1) (c .before .before .before .padded .ensures) (c .before .place .given .1) in
-    record { inside = r .1; held = c .before .before .before .before .before .before .pre .1 .held }
+number-requires-2 : tie.Need-number-requires-2
+number-requires-2 c κs = (c .before .before .before .pre .1, size-aligns i16 _ (c .size2 .ensures))
 
-enum-known-refusal : tie.Need-enum-known-refusal
-enum-known-refusal c = search needs
+size-requires-3 : tie.Need-size-requires-3
+size-requires-3 c κs = search needs
+
+number-requires-3 : tie.Need-number-requires-3
+number-requires-3 c κs = (c .before .before .before .pre .1, size-aligns u16 _ (c .size3 .ensures))
+
+size-requires-4 : tie.Need-size-requires-4
+size-requires-4 c κs = search needs
+
+number-requires-4 : tie.Need-number-requires-4
+number-requires-4 c κs = (c .before .before .before .pre .1, size-aligns i32 _ (c .size4 .ensures))
+
+size-requires-5 : tie.Need-size-requires-5
+size-requires-5 c κs = search needs
+
+number-requires-5 : tie.Need-number-requires-5
+number-requires-5 c κs = (c .before .before .before .pre .1, size-aligns u32 _ (c .size5 .ensures))
+
+size-requires-6 : tie.Need-size-requires-6
+size-requires-6 c κs = search needs
+
+number-requires-6 : tie.Need-number-requires-6
+number-requires-6 c κs = (c .before .before .before .pre .1, size-aligns i64 _ (c .size6 .ensures))
+
+size-requires-7 : tie.Need-size-requires-7
+size-requires-7 c κs = search needs
+
+number-requires-7 : tie.Need-number-requires-7
+number-requires-7 c κs = (c .before .before .before .pre .1, size-aligns u64 _ (c .size7 .ensures))
+
+size-requires-8 : tie.Need-size-requires-8
+size-requires-8 c κs = search needs
+
+number-requires-8 : tie.Need-number-requires-8
+number-requires-8 c κs = (c .before .before .before .pre .1, size-aligns dbl _ (c .size8 .ensures))
+
+size-requires-9 : tie.Need-size-requires-9
+size-requires-9 c κs = search needs
+
+number-requires-9 : tie.Need-number-requires-9
+number-requires-9 c κs = (c .before .before .before .pre .1, size-aligns fd _ (c .size9 .ensures))
+
+tested-requires : tie.Need-tested-requires
+tested-requires c κs = search needs
 
 returns : tie.Need-returns
-returns c = λ b e. base-bare _ b _ _ _ _ (base-padding b _ _ _ _ (c .before .before .before .before .before .align .ensures) e (c .before .before .before .before .padded .ensures) ∙ c .before .before .place .given .1) (c .bare .ensures b e)
+returns c = λ b e. as-number _ _ _ byte b _ _ _ (λ x. tt) e (c .before .before .match .keys1) (c .before .size .ensures) (c .number .ensures)
 
 returns-2 : tie.Need-returns-2
-returns-2 c = λ b e. base-stop _ b _ _ _ (base-padding b _ _ _ _ (c .before .before .before .before .align .ensures) e (c .before .before .before .padded .ensures) ∙ c .before .refusal .given .1)
+returns-2 c = λ b e. as-number _ _ _ i16 b _ _ _ (λ x. tt) e (c .before .before .match .keys2) (c .before .size2 .ensures) (c .number2 .ensures)
+
+returns-3 : tie.Need-returns-3
+returns-3 c = λ b e. as-number _ _ _ u16 b _ _ _ (λ x. tt) e (c .before .before .match .keys3) (c .before .size3 .ensures) (c .number3 .ensures)
+
+returns-4 : tie.Need-returns-4
+returns-4 c = λ b e. as-number _ _ _ i32 b _ _ _ (λ x. tt) e (c .before .before .match .keys4) (c .before .size4 .ensures) (c .number4 .ensures)
+
+returns-5 : tie.Need-returns-5
+returns-5 c = λ b e. as-number _ _ _ u32 b _ _ _ (λ x. tt) e (c .before .before .match .keys5) (c .before .size5 .ensures) (c .number5 .ensures)
+
+returns-6 : tie.Need-returns-6
+returns-6 c = λ b e. as-number _ _ _ i64 b _ _ _ (λ x. tt) e (c .before .before .match .keys6) (c .before .size6 .ensures) (c .number6 .ensures)
+
+returns-7 : tie.Need-returns-7
+returns-7 c = λ b e. as-number _ _ _ u64 b _ _ _ (λ x. tt) e (c .before .before .match .keys7) (c .before .size7 .ensures) (c .number7 .ensures)
+
+returns-8 : tie.Need-returns-8
+returns-8 c = λ b e. as-number _ _ _ dbl b _ _ _ (λ x. tt) e (c .before .before .match .keys8) (c .before .size8 .ensures) (c .number8 .ensures)
+
+returns-9 : tie.Need-returns-9
+returns-9 c = λ b e. as-number _ _ _ fd b _ _ _ (λ x. tt) e (c .before .before .match .keys9) (c .before .size9 .ensures) (c .number9 .ensures)
+
+returns-10 : tie.Need-returns-10
+returns-10 c = λ b e. c .tested .ensures b e (further b _ e (none-of _ (c .before .match .rest .0 .0 .0 .0 .0 .0 .0 .0 .1) (c .before .match .rest .0 .0 .0 .0 .0 .0 .0 .1) (c .before .match .rest .0 .0 .0 .0 .0 .0 .1) (c .before .match .rest .0 .0 .0 .0 .0 .1) (c .before .match .rest .0 .0 .0 .0 .1) (c .before .match .rest .0 .0 .0 .1) (c .before .match .rest .0 .0 .1) (c .before .match .rest .0 .1) (c .before .match .rest .1)))
 
 pub base-spec : {M : Type 1} → statement M
 base-spec =
     tie.close
     (tie.spec
-    align-requires
-    padded-requires
-    enum-known-place
-    bare-requires
-    enum-known-refusal
+    size-requires
+    number-requires
+    size-requires-2
+    number-requires-2
+    size-requires-3
+    number-requires-3
+    size-requires-4
+    number-requires-4
+    size-requires-5
+    number-requires-5
+    size-requires-6
+    number-requires-6
+    size-requires-7
+    number-requires-7
+    size-requires-8
+    number-requires-8
+    size-requires-9
+    number-requires-9
+    tested-requires
     returns
-    returns-2)
+    returns-2
+    returns-3
+    returns-4
+    returns-5
+    returns-6
+    returns-7
+    returns-8
+    returns-9
+    returns-10)

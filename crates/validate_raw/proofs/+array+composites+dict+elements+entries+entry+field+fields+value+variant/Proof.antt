@@ -22,7 +22,7 @@ use Rattle.util.proofs.Windows.{reached-within}
 use Rattle.meaning.proofs.ValueLocal.{baseR-local}
 use Rattle.validate_raw.specs.Walk.{entryR, fieldsTo, walkedTo, InnerIs}
 use Rattle.validate_raw.proofs.OpenLaws.{padded-within}
-use Rattle.validate_raw.proofs.ElementLaws.{element-alignment}
+use Rattle.validate_raw.proofs.ElementLaws.{element-alignment, basic}
 use Rattle.validate_raw.proofs.LoopLaws.{began}
 use Rattle.validate_raw.proofs.WalkLaws.{base-read, variant-read, struct-stop, struct-read, dict-read, array-read, fields-end, variant-deep, variant-shut, variant-holds, inner-at, inner-shut, inner-inside, inner-typed, elements-basic, past-next, walked-place, walked-refusal}
 use Rattle.validate_raw.proofs.CycleLaws.{value-local, value-grows, entryR-local, entryR-grows, walk-moved, walk-turned, walk-refused, walk-ended, walk-none, opened-within, dict-shut, dict-entries, array-shut, array-elements, array-plain, array-ragged, entry-stop, entry-key, entry-past, entry-value, second, fields-moved, fields-turned, fields-refused}
@@ -30,31 +30,34 @@ use borrow.Fn.Kinds.{In}
 use borrow.Fn.PlainCycle.{Measures, is, falls, and}
 use Rattle.validate_raw.proofs.array.Reads as array
 use Rattle.validate_raw.proofs.array.Kinds as array-kinds
-use Rattle.validate_raw.proofs.+array+composites+dict+elements+entries+entry+fields+value+variant.Lts-array as array-lts
+use Rattle.validate_raw.proofs.+array+composites+dict+elements+entries+entry+field+fields+value+variant.Lts-array as array-lts
 use Rattle.validate_raw.proofs.composites.Reads as composites
 use Rattle.validate_raw.proofs.composites.Kinds as composites-kinds
-use Rattle.validate_raw.proofs.+array+composites+dict+elements+entries+entry+fields+value+variant.Lts-composites as composites-lts
+use Rattle.validate_raw.proofs.+array+composites+dict+elements+entries+entry+field+fields+value+variant.Lts-composites as composites-lts
 use Rattle.validate_raw.proofs.dict.Reads as dict
 use Rattle.validate_raw.proofs.dict.Kinds as dict-kinds
-use Rattle.validate_raw.proofs.+array+composites+dict+elements+entries+entry+fields+value+variant.Lts-dict as dict-lts
+use Rattle.validate_raw.proofs.+array+composites+dict+elements+entries+entry+field+fields+value+variant.Lts-dict as dict-lts
 use Rattle.validate_raw.proofs.elements.Reads as elements
 use Rattle.validate_raw.proofs.elements.Kinds as elements-kinds
-use Rattle.validate_raw.proofs.+array+composites+dict+elements+entries+entry+fields+value+variant.Lts-elements as elements-lts
+use Rattle.validate_raw.proofs.+array+composites+dict+elements+entries+entry+field+fields+value+variant.Lts-elements as elements-lts
 use Rattle.validate_raw.proofs.entries.Reads as entries
 use Rattle.validate_raw.proofs.entries.Kinds as entries-kinds
-use Rattle.validate_raw.proofs.+array+composites+dict+elements+entries+entry+fields+value+variant.Lts-entries as entries-lts
+use Rattle.validate_raw.proofs.+array+composites+dict+elements+entries+entry+field+fields+value+variant.Lts-entries as entries-lts
 use Rattle.validate_raw.proofs.entry.Reads as entry
 use Rattle.validate_raw.proofs.entry.Kinds as entry-kinds
-use Rattle.validate_raw.proofs.+array+composites+dict+elements+entries+entry+fields+value+variant.Lts-entry as entry-lts
+use Rattle.validate_raw.proofs.+array+composites+dict+elements+entries+entry+field+fields+value+variant.Lts-entry as entry-lts
+use Rattle.validate_raw.proofs.field.Reads as field
+use Rattle.validate_raw.proofs.field.Kinds as field-kinds
+use Rattle.validate_raw.proofs.+array+composites+dict+elements+entries+entry+field+fields+value+variant.Lts-field as field-lts
 use Rattle.validate_raw.proofs.fields.Reads as fields
 use Rattle.validate_raw.proofs.fields.Kinds as fields-kinds
-use Rattle.validate_raw.proofs.+array+composites+dict+elements+entries+entry+fields+value+variant.Lts-fields as fields-lts
+use Rattle.validate_raw.proofs.+array+composites+dict+elements+entries+entry+field+fields+value+variant.Lts-fields as fields-lts
 use Rattle.validate_raw.proofs.value.Reads as value
 use Rattle.validate_raw.proofs.value.Kinds as value-kinds
-use Rattle.validate_raw.proofs.+array+composites+dict+elements+entries+entry+fields+value+variant.Lts-value as value-lts
+use Rattle.validate_raw.proofs.+array+composites+dict+elements+entries+entry+field+fields+value+variant.Lts-value as value-lts
 use Rattle.validate_raw.proofs.variant.Reads as variant
 use Rattle.validate_raw.proofs.variant.Kinds as variant-kinds
-use Rattle.validate_raw.proofs.+array+composites+dict+elements+entries+entry+fields+value+variant.Lts-variant as variant-lts
+use Rattle.validate_raw.proofs.+array+composites+dict+elements+entries+entry+field+fields+value+variant.Lts-variant as variant-lts
 use Rattle.meaning.proofs.refuse.Reads as refuse-reads
 use Rattle.signature.proofs.skip.Reads as skip-reads
 use Rattle.types.proofs.align.Reads as align-reads
@@ -62,12 +65,13 @@ use Rattle.util.proofs.padded.Reads as padded-reads
 use Rattle.validate_raw.proofs.base.Reads as base-reads
 use Rattle.validate_raw.proofs.basics.Reads as basics-reads
 use Rattle.validate_raw.proofs.inner.Reads as inner-reads
+use Rattle.validate_raw.proofs.is_composite.Reads as is-composite-reads
 use Rattle.validate_raw.proofs.opening.Reads as opening-reads
 use Rattle.validate_raw.proofs.whole.Reads as whole-reads
-use Rattle.validate_raw.proofs.+array+composites+dict+elements+entries+entry+fields+value+variant.{
+use Rattle.validate_raw.proofs.+array+composites+dict+elements+entries+entry+field+fields+value+variant.{
   statement,
 }
-use Rattle.validate_raw.proofs.+array+composites+dict+elements+entries+entry+fields+value+variant.Tie.{
+use Rattle.validate_raw.proofs.+array+composites+dict+elements+entries+entry+field+fields+value+variant.Tie.{
   close,
 }
 
@@ -99,8 +103,11 @@ abbrev μ-entries : Measures 2 entries-kinds.ps ℕ
 abbrev μ-entry : Measures 2 entry-kinds.ps ℕ
 μ-entry κs a = measure (a .1 .1 .1 .1 .1 .1 .0) (length (a .1 .0 .now) - a .1 .1 .0) (a .1 .1 .1 .1 .0 - a .1 .1 .1 .1 .1 .0) 1
 
+abbrev μ-field : Measures 2 field-kinds.ps ℕ
+μ-field κs a = measure (a .1 .1 .1 .1 .1 .1 .0) (length (a .1 .0 .now) - a .1 .1 .0) (a .1 .1 .1 .1 .0 - a .1 .1 .1 .1 .1 .0) 1
+
 abbrev μ-fields : Measures 2 fields-kinds.ps ℕ
-μ-fields κs a = measure (a .1 .1 .1 .1 .1 .1 .0) (length (a .1 .0 .now) - a .1 .1 .0) (a .1 .1 .1 .1 .0 - a .1 .1 .1 .1 .1 .0) 1
+μ-fields κs a = measure (a .1 .1 .1 .1 .1 .1 .0) (length (a .1 .0 .now) - a .1 .1 .0) (a .1 .1 .1 .1 .0 - a .1 .1 .1 .1 .1 .0) 2
 
 abbrev μ-value : Measures 2 value-kinds.ps ℕ
 μ-value κs a = measure (a .1 .1 .1 .1 .1 .1 .0) (length (a .1 .0 .now) - a .1 .1 .0) (a .1 .1 .1 .1 .0 - a .1 .1 .1 .1 .1 .0) 0
@@ -147,6 +154,12 @@ entry-at t = and 2 entry-kinds.ps (is 2 entry-kinds.ps μ-entry t) entry.Pre
 abbrev entry-below : ℕ → In 2 entry-kinds.ps
 entry-below t = and 2 entry-kinds.ps (falls 2 entry-kinds.ps _<_ μ-entry t) entry.Pre
 
+abbrev field-at : ℕ → In 2 field-kinds.ps
+field-at t = and 2 field-kinds.ps (is 2 field-kinds.ps μ-field t) field.Pre
+
+abbrev field-below : ℕ → In 2 field-kinds.ps
+field-below t = and 2 field-kinds.ps (falls 2 field-kinds.ps _<_ μ-field t) field.Pre
+
 abbrev fields-at : ℕ → In 2 fields-kinds.ps
 fields-at t = and 2 fields-kinds.ps (is 2 fields-kinds.ps μ-fields t) fields.Pre
 
@@ -175,7 +188,7 @@ abbrev dict-claims : ℕ → dict-lts.Claims
 dict-claims t = (opening-reads.Asked, opening-reads.Learnt, entries-below t, entries.Post)
 
 abbrev elements-claims : ℕ → elements-lts.Claims
-elements-claims t = (composites-below t, composites.Post, basics-reads.Asked, basics-reads.Learnt)
+elements-claims t = (is-composite-reads.Asked, is-composite-reads.Learnt, composites-below t, composites.Post, basics-reads.Asked, basics-reads.Learnt)
 
 abbrev entries-claims : ℕ → entries-lts.Claims
 entries-claims t = (skip-reads.Asked, skip-reads.Learnt, entry-below t, entry.Post)
@@ -183,8 +196,11 @@ entries-claims t = (skip-reads.Asked, skip-reads.Learnt, entry-below t, entry.Po
 abbrev entry-claims : ℕ → entry-lts.Claims
 entry-claims t = (padded-reads.Asked, padded-reads.Learnt, base-reads.Asked, base-reads.Learnt, value-below t, value.Post)
 
+abbrev field-claims : ℕ → field-lts.Claims
+field-claims t = (is-composite-reads.Asked, is-composite-reads.Learnt, value-below t, value.Post, base-reads.Asked, base-reads.Learnt)
+
 abbrev fields-claims : ℕ → fields-lts.Claims
-fields-claims t = (value-below t, value.Post)
+fields-claims t = (field-below t, field.Post)
 
 abbrev value-claims : ℕ → value-lts.Claims
 value-claims t = (dict-below t, dict.Post, array-below t, array.Post, padded-reads.Asked, padded-reads.Learnt, fields-below t, fields.Post, variant-below t, variant.Post, base-reads.Asked, base-reads.Learnt)
@@ -301,23 +317,20 @@ dict-returns-2 t c = λ k u e h. dict-shut (c .before .before .before .before .b
 elements-shared-slice-read-k : (t : ℕ) → elements-lts.Need-shared-slice-read-k (elements-claims t) (elements-at t) elements.Post
 elements-shared-slice-read-k t c = start (c .before .before .before .pre .1 .0 .typed)
 
+elements-is-composite-requires : (t : ℕ) → elements-lts.Need-is-composite-requires (elements-claims t) (elements-at t) elements.Post
+elements-is-composite-requires t c κs = search needs
+
 elements-composites-requires : (t : ℕ) → elements-lts.Need-composites-requires (elements-claims t) (elements-at t) elements.Post
-elements-composites-requires t c κs = (omega (arith, c .before .before .before .before .pre .0), (c .before .before .before .before .pre .1 .0 .typed, c .before .before .before .before .pre .1 .1))
-
-elements-composites-requires-2 : (t : ℕ) → elements-lts.Need-composites-requires-2 (elements-claims t) (elements-at t) elements.Post
-elements-composites-requires-2 t c κs = (omega (arith, c .before .before .before .before .before .pre .0), (c .before .before .before .before .before .pre .1 .0 .typed, c .before .before .before .before .before .pre .1 .1))
-
-elements-composites-requires-3 : (t : ℕ) → elements-lts.Need-composites-requires-3 (elements-claims t) (elements-at t) elements.Post
-elements-composites-requires-3 t c κs = (omega (arith, c .before .before .before .before .before .before .pre .0), (c .before .before .before .before .before .before .pre .1 .0 .typed, c .before .before .before .before .before .before .pre .1 .1))
+elements-composites-requires t c κs = (omega (arith, c .before .before .before .before .before .pre .0), (c .before .before .before .before .before .pre .1 .0 .typed, c .before .before .before .before .before .pre .1 .1))
 
 elements-basics-requires : (t : ℕ) → elements-lts.Need-basics-requires (elements-claims t) (elements-at t) elements.Post
-elements-basics-requires t c κs = (let i = is-base (c .before .before .before .before .before .before .pre .1 .0 .typed .stands) (c .before .before .if1 .left) (c .before .if2 .left) (c .before .before .before .before .before .before .pre .1 .0 .other) (c .if3 .left) in (record { of = i .of; is = i .byte }, c .before .before .before .before .before .before .pre .1 .1))
+elements-basics-requires t c κs = (let k = basic (sym (c .before .is-composite .ensures) ∙ c .if1 .left) in let i = is-base (c .before .before .before .before .before .pre .1 .0 .typed .stands) (k .0) (k .1) (k .2) (k .3) in (record { of = i .of; is = i .byte }, c .before .before .before .before .before .pre .1 .1))
 
 elements-enum-known-place : (t : ℕ) → elements-lts.Need-enum-known-place (elements-claims t) (elements-at t) elements.Post
 elements-enum-known-place t c = search needs
 
-elements-add-t21 : (t : ℕ) → elements-lts.Need-add-t21 (elements-claims t) (elements-at t) elements.Post
-elements-add-t21 t c = omega (arith, start (c .before .before .before .before .before .before .before .before .before .before .pre .1 .0 .typed))
+elements-add-t17 : (t : ℕ) → elements-lts.Need-add-t17 (elements-claims t) (elements-at t) elements.Post
+elements-add-t17 t c = omega (arith, start (c .before .before .before .before .before .before .before .before .before .pre .1 .0 .typed))
 
 elements-enum-known-refusal : (t : ℕ) → elements-lts.Need-enum-known-refusal (elements-claims t) (elements-at t) elements.Post
 elements-enum-known-refusal t c = search needs
@@ -326,16 +339,10 @@ elements-returns : (t : ℕ) → elements-lts.Need-returns (elements-claims t) (
 elements-returns t c = c .composites .ensures
 
 elements-returns-2 : (t : ℕ) → elements-lts.Need-returns-2 (elements-claims t) (elements-at t) elements.Post
-elements-returns-2 t c = c .composites2 .ensures
+elements-returns-2 t c = λ u e h. (let k = basic (sym (c .before .before .before .before .before .is-composite .ensures) ∙ c .before .before .before .before .if1 .left) in let i = is-base h (k .0) (k .1) (k .2) (k .3) in elements-basic (c .before .before .before .before .before .before .before .before .before .args .order) (readVar (c .before .before .before .before .before .before .before .before .before .args .order) (c .before .before .before .before .before .before .before .before .before .args .levels)) (take (c .before .before .before .before .before .before .before .before .before .args .stop) (c .before .before .before .before .before .before .before .before .before .args .buf .now)) ((c .before .before .before .before .before .before .before .before .before .args .stop) - (c .before .before .before .before .before .before .before .before .before .args .first)) (c .before .before .before .before .before .before .before .before .before .args .first) u (i .of) _ e _ (i .is) (i .ends) (sym (c .before .place .given .1) ∙ c .before .before .before .basics .ensures (i .of) (i .byte)))
 
 elements-returns-3 : (t : ℕ) → elements-lts.Need-returns-3 (elements-claims t) (elements-at t) elements.Post
-elements-returns-3 t c = c .composites3 .ensures
-
-elements-returns-4 : (t : ℕ) → elements-lts.Need-returns-4 (elements-claims t) (elements-at t) elements.Post
-elements-returns-4 t c = λ u e h. (let i = is-base h (c .before .before .before .before .before .before .if1 .left) (c .before .before .before .before .before .if2 .left) (c .before .before .before .before .before .before .before .before .before .before .pre .1 .0 .other) (c .before .before .before .before .if3 .left) in elements-basic (c .before .before .before .before .before .before .before .before .before .before .args .order) (readVar (c .before .before .before .before .before .before .before .before .before .before .args .order) (c .before .before .before .before .before .before .before .before .before .before .args .levels)) (take (c .before .before .before .before .before .before .before .before .before .before .args .stop) (c .before .before .before .before .before .before .before .before .before .before .args .buf .now)) ((c .before .before .before .before .before .before .before .before .before .before .args .stop) - (c .before .before .before .before .before .before .before .before .before .before .args .first)) (c .before .before .before .before .before .before .before .before .before .before .args .first) u (i .of) _ e _ (i .is) (i .ends) (sym (c .before .place .given .1) ∙ c .before .before .before .basics .ensures (i .of) (i .byte)))
-
-elements-returns-5 : (t : ℕ) → elements-lts.Need-returns-5 (elements-claims t) (elements-at t) elements.Post
-elements-returns-5 t c = λ u e h. (let i = is-base h (c .before .before .before .before .before .before .if1 .left) (c .before .before .before .before .before .if2 .left) (c .before .before .before .before .before .before .before .before .before .before .pre .1 .0 .other) (c .before .before .before .before .if3 .left) in elements-basic (c .before .before .before .before .before .before .before .before .before .before .args .order) (readVar (c .before .before .before .before .before .before .before .before .before .before .args .order) (c .before .before .before .before .before .before .before .before .before .before .args .levels)) (take (c .before .before .before .before .before .before .before .before .before .before .args .stop) (c .before .before .before .before .before .before .before .before .before .before .args .buf .now)) ((c .before .before .before .before .before .before .before .before .before .before .args .stop) - (c .before .before .before .before .before .before .before .before .before .before .args .first)) (c .before .before .before .before .before .before .before .before .before .before .args .first) u (i .of) _ e _ (i .is) (i .ends) (sym (c .before .refusal .given .1) ∙ c .before .before .before .basics .ensures (i .of) (i .byte)))
+elements-returns-3 t c = λ u e h. (let k = basic (sym (c .before .before .before .before .before .is-composite .ensures) ∙ c .before .before .before .before .if1 .left) in let i = is-base h (k .0) (k .1) (k .2) (k .3) in elements-basic (c .before .before .before .before .before .before .before .before .before .args .order) (readVar (c .before .before .before .before .before .before .before .before .before .args .order) (c .before .before .before .before .before .before .before .before .before .args .levels)) (take (c .before .before .before .before .before .before .before .before .before .args .stop) (c .before .before .before .before .before .before .before .before .before .args .buf .now)) ((c .before .before .before .before .before .before .before .before .before .args .stop) - (c .before .before .before .before .before .before .before .before .before .args .first)) (c .before .before .before .before .before .before .before .before .before .args .first) u (i .of) e e _ (i .is) refl (sym (c .before .refusal .given .1) ∙ c .before .before .before .basics .ensures (i .of) (i .byte)))
 
 abbrev entries-Inv-loop : entries-lts.InvT-loop
 entries-Inv-loop order sig at buf stop first levels o₀ next₀ o next = (first ≤ o) × (o ≤ stop) × ((k : Base) (u : Ty) (e : ℕ) → EntryAt k u sig at e → Onward (entryR order (readVar order levels) k u) (take stop buf) (stop - first) first o × ((o ≡ first → ⊥) → next ≡ e))
@@ -434,6 +441,36 @@ entry-returns-3 t c = λ k u e h. (let y = in-entry h in entry-key (c .before .b
 entry-returns-4 : (t : ℕ) → entry-lts.Need-returns-4 (entry-claims t) (entry-at t) entry.Post
 entry-returns-4 t c = λ k u e h. entry-stop (c .before .before .before .before .before .before .args .order) (c .before .before .before .before .before .before .args .levels) k u (take (c .before .before .before .before .before .before .args .end) (c .before .before .before .before .before .before .args .buf .now)) (c .before .before .before .before .before .before .args .off) e _ (sym (c .before .before .before .padded .ensures) ∙ c .before .refusal3 .given .1)
 
+field-shared-slice-read-k : (t : ℕ) → field-lts.Need-shared-slice-read-k (field-claims t) (field-at t) field.Post
+field-shared-slice-read-k t c = start (c .before .before .before .pre .1 .0)
+
+field-is-composite-requires : (t : ℕ) → field-lts.Need-is-composite-requires (field-claims t) (field-at t) field.Post
+field-is-composite-requires t c κs = search needs
+
+field-value-requires : (t : ℕ) → field-lts.Need-value-requires (field-claims t) (field-at t) field.Post
+field-value-requires t c κs = (omega (arith, c .before .before .before .before .before .pre .0), (c .before .before .before .before .before .pre .1 .0, c .before .before .before .before .before .pre .1 .1))
+
+field-base-requires : (t : ℕ) → field-lts.Need-base-requires (field-claims t) (field-at t) field.Post
+field-base-requires t c κs = (let k = basic (sym (c .before .is-composite .ensures) ∙ c .if1 .left) in let i = is-base (c .before .before .before .before .before .pre .1 .0 .stands) (k .0) (k .1) (k .2) (k .3) in (record { of = i .of; is = i .byte }, c .before .before .before .before .before .pre .1 .1))
+
+field-enum-known-place : (t : ℕ) → field-lts.Need-enum-known-place (field-claims t) (field-at t) field.Post
+field-enum-known-place t c = search needs
+
+field-add-t17 : (t : ℕ) → field-lts.Need-add-t17 (field-claims t) (field-at t) field.Post
+field-add-t17 t c = omega (arith, start (c .before .before .before .before .before .before .before .before .before .pre .1 .0))
+
+field-enum-known-refusal : (t : ℕ) → field-lts.Need-enum-known-refusal (field-claims t) (field-at t) field.Post
+field-enum-known-refusal t c = search needs
+
+field-returns : (t : ℕ) → field-lts.Need-returns (field-claims t) (field-at t) field.Post
+field-returns t c = c .value .ensures
+
+field-returns-2 : (t : ℕ) → field-lts.Need-returns-2 (field-claims t) (field-at t) field.Post
+field-returns-2 t c = λ u e h. (let k = basic (sym (c .before .before .before .before .before .is-composite .ensures) ∙ c .before .before .before .before .if1 .left) in let i = is-base h (k .0) (k .1) (k .2) (k .3) in base-read (c .before .before .before .before .before .before .before .before .before .args .order) (readVar (c .before .before .before .before .before .before .before .before .before .args .order) (c .before .before .before .before .before .before .before .before .before .args .levels)) (take (c .before .before .before .before .before .before .before .before .before .args .end) (c .before .before .before .before .before .before .before .before .before .args .buf .now)) (c .before .before .before .before .before .before .before .before .before .args .off) u (i .of) _ e _ (i .is) (i .ends) (sym (c .before .place .given .1) ∙ c .before .before .before .base .ensures (i .of) (i .byte)))
+
+field-returns-3 : (t : ℕ) → field-lts.Need-returns-3 (field-claims t) (field-at t) field.Post
+field-returns-3 t c = λ u e h. (let k = basic (sym (c .before .before .before .before .before .is-composite .ensures) ∙ c .before .before .before .before .if1 .left) in let i = is-base h (k .0) (k .1) (k .2) (k .3) in base-read (c .before .before .before .before .before .before .before .before .before .args .order) (readVar (c .before .before .before .before .before .before .before .before .before .args .order) (c .before .before .before .before .before .before .before .before .before .args .levels)) (take (c .before .before .before .before .before .before .before .before .before .args .end) (c .before .before .before .before .before .before .before .before .before .args .buf .now)) (c .before .before .before .before .before .before .before .before .before .args .off) u (i .of) e e _ (i .is) refl (sym (c .before .refusal .given .1) ∙ c .before .before .before .base .ensures (i .of) (i .byte)))
+
 abbrev fields-Inv-loop : fields-lts.InvT-loop
 fields-Inv-loop order sig at buf end off levels i₀ o₀ i o = (at ≤ i) × (off ≤ o) × (o ≤ end) × FieldsTyped sig i × ((ts : List Ty) (e : ℕ) → FieldsAt ts sig at e → (us : List Ty) × FieldsAt us sig i e × (fieldsTo order (readVar order levels) ts (take end buf) off ≡ fieldsTo order (readVar order levels) us (take end buf) o))
 
@@ -446,24 +483,24 @@ fields-loop-holds t c = (omega arith, omega arith, c .before .before .pre .1 .1 
 fields-shared-slice-read-if1 : (t : ℕ) → fields-lts.Need-shared-slice-read-if1 (fields-claims t) (fields-at t) fields.Post fields-Inv-loop fields-μ-loop
 fields-shared-slice-read-if1 t c = start-fields (c .before .loop .inv .3)
 
-fields-value-requires : (t : ℕ) → fields-lts.Need-value-requires (fields-claims t) (fields-at t) fields.Post fields-Inv-loop fields-μ-loop
-fields-value-requires t c κs = (omega (arith, c .before .before .before .before .before .pre .0, c .before .before .loop .inv .0, c .before .before .loop .inv .1, c .before .before .loop .inv .2), (go-first (c .before .before .loop .inv .3) (c .if1 .taken), record { inside = c .before .before .loop .inv .2; held = c .before .before .before .before .before .pre .1 .1 .held }))
+fields-field-requires : (t : ℕ) → fields-lts.Need-field-requires (fields-claims t) (fields-at t) fields.Post fields-Inv-loop fields-μ-loop
+fields-field-requires t c κs = (omega (arith, c .before .before .before .before .before .pre .0, c .before .before .loop .inv .0, c .before .before .loop .inv .1, c .before .before .loop .inv .2), (go-first (c .before .before .loop .inv .3) (c .if1 .taken), record { inside = c .before .before .loop .inv .2; held = c .before .before .before .before .before .pre .1 .1 .held }))
 
 fields-enum-known-n : (t : ℕ) → fields-lts.Need-enum-known-n (fields-claims t) (fields-at t) fields.Post fields-Inv-loop fields-μ-loop
 fields-enum-known-n t c = search needs
 
 fields-loop-less : (t : ℕ) → fields-lts.Need-loop-less (fields-claims t) (fields-at t) fields.Post fields-Inv-loop fields-μ-loop
-fields-loop-less t c = let m = fields-moved (c .before .before .before .before .before .before .before .before .before .args .order) (c .before .before .before .before .before .before .before .before .before .args .levels) (c .before .before .before .before .before .before .before .before .before .args .sig .now) (c .before .before .before .before .before .before .before .before .before .args .buf .now) (c .before .before .before .before .before .before .before .before .before .args .end) (c .before .before .before .before .before .before .before .before .before .pre .1 .1 .held) _ _ (c .before .before .before .before .if1 .taken) _ (c .before .before .before .value .ensures) _ _ (c .before .before .before .before .before .before .loop .inv .3) (c .before .before .before .before .before .before .loop .inv .2) (c .before .n .given .1) in omega (arith, m .0, start-fields (m .3))
+fields-loop-less t c = let m = fields-moved (c .before .before .before .before .before .before .before .before .before .args .order) (c .before .before .before .before .before .before .before .before .before .args .levels) (c .before .before .before .before .before .before .before .before .before .args .sig .now) (c .before .before .before .before .before .before .before .before .before .args .buf .now) (c .before .before .before .before .before .before .before .before .before .args .end) (c .before .before .before .before .before .before .before .before .before .pre .1 .1 .held) _ _ (c .before .before .before .before .if1 .taken) _ (c .before .before .before .field .ensures) _ _ (c .before .before .before .before .before .before .loop .inv .3) (c .before .before .before .before .before .before .loop .inv .2) (c .before .n .given .1) in omega (arith, m .0, start-fields (m .3))
 
 fields-loop-again : (t : ℕ) → fields-lts.Need-loop-again (fields-claims t) (fields-at t) fields.Post fields-Inv-loop fields-μ-loop
-fields-loop-again t c = let m = fields-moved (c .before .before .before .before .before .before .before .before .before .args .order) (c .before .before .before .before .before .before .before .before .before .args .levels) (c .before .before .before .before .before .before .before .before .before .args .sig .now) (c .before .before .before .before .before .before .before .before .before .args .buf .now) (c .before .before .before .before .before .before .before .before .before .args .end) (c .before .before .before .before .before .before .before .before .before .pre .1 .1 .held) _ _ (c .before .before .before .before .if1 .taken) _ (c .before .before .before .value .ensures) _ _ (c .before .before .before .before .before .before .loop .inv .3) (c .before .before .before .before .before .before .loop .inv .2) (c .before .n .given .1) in
-    (omega (arith, m .0, c .before .before .before .before .before .before .loop .inv .0), omega (arith, m .2, c .before .before .before .before .before .before .loop .inv .1), m .1, m .3, λ ts e h. (let i = c .before .before .before .before .before .before .loop .inv .4 ts e h in let j = fields-turned (c .before .before .before .before .before .before .before .before .before .args .order) (c .before .before .before .before .before .before .before .before .before .args .levels) (c .before .before .before .before .before .before .before .before .before .args .sig .now) (c .before .before .before .before .before .before .before .before .before .args .buf .now) (c .before .before .before .before .before .before .before .before .before .args .end) (c .before .before .before .before .before .before .before .before .before .pre .1 .1 .held) _ _ (c .before .before .before .before .if1 .taken) _ (c .before .before .before .value .ensures) _ _ e (i .0) (i .1) (c .before .n .given .1) in (j .0, j .1, i .2 ∙ j .2)))
+fields-loop-again t c = let m = fields-moved (c .before .before .before .before .before .before .before .before .before .args .order) (c .before .before .before .before .before .before .before .before .before .args .levels) (c .before .before .before .before .before .before .before .before .before .args .sig .now) (c .before .before .before .before .before .before .before .before .before .args .buf .now) (c .before .before .before .before .before .before .before .before .before .args .end) (c .before .before .before .before .before .before .before .before .before .pre .1 .1 .held) _ _ (c .before .before .before .before .if1 .taken) _ (c .before .before .before .field .ensures) _ _ (c .before .before .before .before .before .before .loop .inv .3) (c .before .before .before .before .before .before .loop .inv .2) (c .before .n .given .1) in
+    (omega (arith, m .0, c .before .before .before .before .before .before .loop .inv .0), omega (arith, m .2, c .before .before .before .before .before .before .loop .inv .1), m .1, m .3, λ ts e h. (let i = c .before .before .before .before .before .before .loop .inv .4 ts e h in let j = fields-turned (c .before .before .before .before .before .before .before .before .before .args .order) (c .before .before .before .before .before .before .before .before .before .args .levels) (c .before .before .before .before .before .before .before .before .before .args .sig .now) (c .before .before .before .before .before .before .before .before .before .args .buf .now) (c .before .before .before .before .before .before .before .before .before .args .end) (c .before .before .before .before .before .before .before .before .before .pre .1 .1 .held) _ _ (c .before .before .before .before .if1 .taken) _ (c .before .before .before .field .ensures) _ _ e (i .0) (i .1) (c .before .n .given .1) in (j .0, j .1, i .2 ∙ j .2)))
 
 fields-enum-known-refusal : (t : ℕ) → fields-lts.Need-enum-known-refusal (fields-claims t) (fields-at t) fields.Post fields-Inv-loop fields-μ-loop
 fields-enum-known-refusal t c = search needs
 
 fields-returns : (t : ℕ) → fields-lts.Need-returns (fields-claims t) (fields-at t) fields.Post fields-Inv-loop fields-μ-loop
-fields-returns t c = λ ts e h. (let i = c .before .before .before .before .before .before .loop .inv .4 ts e h in ap (walkedTo e) (sym (i .2 ∙ fields-refused (c .before .before .before .before .before .before .before .before .before .args .order) (c .before .before .before .before .before .before .before .before .before .args .levels) (c .before .before .before .before .before .before .before .before .before .args .sig .now) (c .before .before .before .before .before .before .before .before .before .args .buf .now) (c .before .before .before .before .before .before .before .before .before .args .end) (c .before .before .before .before .before .before .before .before .before .pre .1 .1 .held) _ _ (c .before .before .before .before .if1 .taken) _ (c .before .before .before .value .ensures) e (i .0) _ (i .1) (c .before .refusal .given .1))))
+fields-returns t c = λ ts e h. (let i = c .before .before .before .before .before .before .loop .inv .4 ts e h in ap (walkedTo e) (sym (i .2 ∙ fields-refused (c .before .before .before .before .before .before .before .before .before .args .order) (c .before .before .before .before .before .before .before .before .before .args .levels) (c .before .before .before .before .before .before .before .before .before .args .sig .now) (c .before .before .before .before .before .before .before .before .before .args .buf .now) (c .before .before .before .before .before .before .before .before .before .args .end) (c .before .before .before .before .before .before .before .before .before .pre .1 .1 .held) _ _ (c .before .before .before .before .if1 .taken) _ (c .before .before .before .field .ensures) e (i .0) _ (i .1) (c .before .refusal .given .1))))
 
 fields-add-t17 : (t : ℕ) → fields-lts.Need-add-t17 (fields-claims t) (fields-at t) fields.Post fields-Inv-loop fields-μ-loop
 fields-add-t17 t c = omega (arith, start-fields (c .before .before .loop .inv .3))
@@ -612,9 +649,9 @@ variant-returns-3 t c = (let i = inner-at (c .before .before .before .before .be
 variant-returns-4 : (t : ℕ) → variant-lts.Need-returns-4 (variant-claims t) (variant-at t) variant.Post
 variant-returns-4 t c = variant-shut (c .before .before .before .before .before .before .args .order) (take (c .before .before .before .before .before .before .args .end) (c .before .before .before .before .before .before .args .buf .now)) (c .before .before .before .before .before .before .args .off) (c .before .before .before .before .before .before .args .levels) _ (c .before .before .before .before .if1 .left) (inner-shut (c .before .before .before .before .before .before .args .order) (c .before .before .before .before .before .before .args .buf .now) (c .before .before .before .before .before .before .args .end) (c .before .before .before .before .before .before .args .off) _ _ (c .before .refusal2 .given .1) (c .before .before .before .inner .ensures _))
 
-pub +array+composites+dict+elements+entries+entry+fields+value+variant-spec :
+pub +array+composites+dict+elements+entries+entry+field+fields+value+variant-spec :
     {M : Type 1} → statement M
-+array+composites+dict+elements+entries+entry+fields+value+variant-spec =
++array+composites+dict+elements+entries+entry+field+fields+value+variant-spec =
     close
     μ-array
     μ-composites
@@ -622,6 +659,7 @@ pub +array+composites+dict+elements+entries+entry+fields+value+variant-spec :
     μ-elements
     μ-entries
     μ-entry
+    μ-field
     μ-fields
     μ-value
     μ-variant
@@ -681,6 +719,8 @@ pub +array+composites+dict+elements+entries+entry+fields+value+variant-spec :
     (dict-returns t)
     (dict-returns-2 t))
     (λ t. elements-lts.spec (
+      is-composite-reads.Asked,
+      is-composite-reads.Learnt,
       composites-below t,
       composites.Post,
       basics-reads.Asked,
@@ -689,18 +729,15 @@ pub +array+composites+dict+elements+entries+entry+fields+value+variant-spec :
     (elements-at t)
     elements.Post
     (elements-shared-slice-read-k t)
+    (elements-is-composite-requires t)
     (elements-composites-requires t)
-    (elements-composites-requires-2 t)
-    (elements-composites-requires-3 t)
     (elements-basics-requires t)
     (elements-enum-known-place t)
-    (elements-add-t21 t)
+    (elements-add-t17 t)
     (elements-enum-known-refusal t)
     (elements-returns t)
     (elements-returns-2 t)
-    (elements-returns-3 t)
-    (elements-returns-4 t)
-    (elements-returns-5 t))
+    (elements-returns-3 t))
     (λ t. entries-lts.spec
     (skip-reads.Asked, skip-reads.Learnt, entry-below t, entry.Post)
     (entries-at t)
@@ -745,15 +782,35 @@ pub +array+composites+dict+elements+entries+entry+fields+value+variant-spec :
     (entry-returns-2 t)
     (entry-returns-3 t)
     (entry-returns-4 t))
+    (λ t. field-lts.spec (
+      is-composite-reads.Asked,
+      is-composite-reads.Learnt,
+      value-below t,
+      value.Post,
+      base-reads.Asked,
+      base-reads.Learnt,
+    )
+    (field-at t)
+    field.Post
+    (field-shared-slice-read-k t)
+    (field-is-composite-requires t)
+    (field-value-requires t)
+    (field-base-requires t)
+    (field-enum-known-place t)
+    (field-add-t17 t)
+    (field-enum-known-refusal t)
+    (field-returns t)
+    (field-returns-2 t)
+    (field-returns-3 t))
     (λ t. fields-lts.spec
-    (value-below t, value.Post)
+    (field-below t, field.Post)
     (fields-at t)
     fields.Post
     fields-Inv-loop
     fields-μ-loop
     (fields-loop-holds t)
     (fields-shared-slice-read-if1 t)
-    (fields-value-requires t)
+    (fields-field-requires t)
     (fields-enum-known-n t)
     (fields-loop-less t)
     (fields-loop-again t)
