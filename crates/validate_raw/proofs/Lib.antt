@@ -7,3 +7,4 @@ pub mod BaseLaws
 pub mod LoopLaws
 pub mod CycleLaws
 pub mod EntryLaws
+pub mod Demands
