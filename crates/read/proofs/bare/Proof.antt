@@ -11,15 +11,6 @@ use borrow.Author.Needs.{needs}
 use Rattle.read.proofs.bare.Statement.{statement}
 use Rattle.read.proofs.bare.Tie as tie
 
-size-requires : tie.Need-size-requires
-size-requires c κs = search needs
-
-sub-if1 : tie.Need-sub-if1
-sub-if1 c = search needs
-
-refuse-requires : tie.Need-refuse-requires
-refuse-requires c κs = search needs
-
 returns : tie.Need-returns
 returns c d e = too-few _ d _ _ _ (c .before .before .before .before .pre .0) (c .before .before .size .ensures ∙ size-of _ d e) (c .before .if1 .taken) _ (c .refuse .ensures)
 
@@ -27,9 +18,6 @@ load-requires : tie.Need-load-requires
 load-requires c κs =
     let k = c .before .before .before .pre .1 in
     (omega arith, subst (λ (w : ℕ). T (isAlignment w)) (sym (c .before .size .ensures ∙ size-of _ (k .type) (k .coded))) (size-is-alignment (k .type)))
-
-valid-requires : tie.Need-valid-requires
-valid-requires c κs = search needs
 
 value-requires : tie.Need-value-requires
 value-requires c κs =
@@ -40,9 +28,6 @@ value-requires c κs =
       small = rw (c .before .before .before .before .size .ensures ∙ size-of _ (k .type) (k .coded)) at (c .before .before .load .ensures .small);
     }
 
-refuse-requires-2 : tie.Need-refuse-requires-2
-refuse-requires-2 c κs = search needs
-
 returns-2 : tie.Need-returns-2
 returns-2 c d e = is-valid _ d _ _ _ (c .before .before .before .before .before .before .before .pre .0) (c .before .before .before .before .before .size .ensures ∙ size-of _ d e) (c .before .before .before .before .if1 .left) _ (c .before .before .before .load .ensures) (sym (c .before .if2 .taken) ∙ c .before .before .valid .ensures d e) _ (c .value .ensures d e)
 
@@ -51,15 +36,4 @@ returns-3 c d e = is-invalid _ d _ _ _ (c .before .before .before .before .befor
 
 pub bare-spec : {M : Type 1} → statement M
 bare-spec =
-    tie.close
-    (tie.spec
-    size-requires
-    sub-if1
-    refuse-requires
-    returns
-    load-requires
-    valid-requires
-    value-requires
-    refuse-requires-2
-    returns-2
-    returns-3)
+    tie.close (tie.spec (λ c κs. search needs) (λ c. search needs) (λ c κs. search needs) returns load-requires (λ c κs. search needs) value-requires (λ c κs. search needs) returns-2 returns-3)

@@ -7,15 +7,6 @@ use borrow.Author.Needs.{needs}
 use Rattle.read.proofs.load.Statement.{statement}
 use Rattle.read.proofs.load.Tie as tie
 
-load64-requires : tie.Need-load64-requires
-load64-requires c κs = search needs
-
-load32-requires : tie.Need-load32-requires
-load32-requires c κs = search needs
-
-load16-requires : tie.Need-load16-requires
-load16-requires c κs = search needs
-
 shared-slice-read-result : tie.Need-shared-slice-read-result
 shared-slice-read-result c = omega (arith, is-one _ (c .before .before .before .before .before .pre .1) (c .before .before .before .if1 .left) (c .before .before .if2 .left) (c .before .if3 .left))
 
@@ -38,14 +29,4 @@ returns-4 c =
 
 pub load-spec : {M : Type 1} → statement M
 load-spec =
-    tie.close
-    (tie.spec
-    load64-requires
-    load32-requires
-    load16-requires
-    shared-slice-read-result
-    cast-result
-    returns
-    returns-2
-    returns-3
-    returns-4)
+    tie.close (tie.spec (λ c κs. search needs) (λ c κs. search needs) (λ c κs. search needs) shared-slice-read-result cast-result returns returns-2 returns-3 returns-4)

@@ -7,15 +7,6 @@ use borrow.Author.Needs.{needs}
 use Rattle.read.proofs.signed16.Statement.{statement}
 use Rattle.read.proofs.signed16.Tie as tie
 
-cast-result : tie.Need-cast-result
-cast-result c = search needs
-
-sub-result : tie.Need-sub-result
-sub-result c = search needs
-
-cast-result-2 : tie.Need-cast-result-2
-cast-result-2 c = search needs
-
 sub-result-2 : tie.Need-sub-result-2
 sub-result-2 c = fits w16 (65535 - c .before .args .bits) (omega arith)
 
@@ -27,4 +18,4 @@ returns-2 c = high w16 (c .before .args .bits) (omega arith) (omega arith)
 
 pub signed16-spec : {M : Type 1} → statement M
 signed16-spec =
-    tie.close (tie.spec cast-result sub-result cast-result-2 sub-result-2 returns returns-2)
+    tie.close (tie.spec (λ c. search needs) (λ c. search needs) (λ c. search needs) sub-result-2 returns returns-2)

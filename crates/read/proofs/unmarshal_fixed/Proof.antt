@@ -14,26 +14,11 @@ use borrow.Author.Needs.{needs}
 use Rattle.read.proofs.unmarshal_fixed.Statement.{statement}
 use Rattle.read.proofs.unmarshal_fixed.Tie as tie
 
-refuse-requires : tie.Need-refuse-requires
-refuse-requires c κs = search needs
-
 returns : tie.Need-returns
 returns c = bad-argument _ _ _ _ (not-one _ (c .before .if1 .taken)) _ (c .refuse .ensures)
 
-shared-slice-read-code : tie.Need-shared-slice-read-code
-shared-slice-read-code c = search needs
-
-size-requires : tie.Need-size-requires
-size-requires c κs = search needs
-
-refuse-requires-2 : tie.Need-refuse-requires-2
-refuse-requires-2 c κs = search needs
-
 returns-2 : tie.Need-returns-2
 returns-2 c = bad-argument _ _ _ _ (no-size _ (sym (c .before .before .size .ensures) ∙ c .before .if2 .taken)) _ (c .refuse2 .ensures)
-
-refuse-requires-3 : tie.Need-refuse-requires-3
-refuse-requires-3 c κs = search needs
 
 returns-3 : tie.Need-returns-3
 returns-3 c =
@@ -45,17 +30,11 @@ padded-requires c κs =
     let k = chosen _ _ (c .before .before .size .ensures) (c .before .if2 .left) in
     (record { inside = search needs; held = search needs }, subst (λ (w : ℕ). T (isAlignment w)) (sym (k .wide)) (size-is-alignment (k .type)))
 
-enum-known-place : tie.Need-enum-known-place
-enum-known-place c = search needs
-
 bare-requires : tie.Need-bare-requires
 bare-requires c κs =
     let k = chosen _ _ (c .before .before .before .before .before .before .size .ensures) (c .before .before .before .before .before .if2 .left) in
     let w = reached-within (padding _) (padding-local _ .bound) _ _ _ _ (record { inside = c .before .before .before .before .if3 .left; held = omega arith }) (sym (c .before .place .given .1) ∙ c .before .before .before .padded .ensures) in
     (w .1, record { type = k .type; coded = k .coded })
-
-enum-known-refusal : tie.Need-enum-known-refusal
-enum-known-refusal c = search needs
 
 returns-4 : tie.Need-returns-4
 returns-4 c =
@@ -69,19 +48,4 @@ returns-5 c =
 
 pub unmarshal-fixed-spec : {M : Type 1} → statement M
 unmarshal-fixed-spec =
-    tie.close
-    (tie.spec
-    refuse-requires
-    returns
-    shared-slice-read-code
-    size-requires
-    refuse-requires-2
-    returns-2
-    refuse-requires-3
-    returns-3
-    padded-requires
-    enum-known-place
-    bare-requires
-    enum-known-refusal
-    returns-4
-    returns-5)
+    tie.close (tie.spec (λ c κs. search needs) returns (λ c. search needs) (λ c κs. search needs) (λ c κs. search needs) returns-2 (λ c κs. search needs) returns-3 padded-requires (λ c. search needs) bare-requires (λ c. search needs) returns-4 returns-5)

@@ -17,26 +17,14 @@ cast-t4 c = let h = small _ _ byte (c .match .keys1) (c .before .pre) in omega a
 cast-signed16 : tie.Need-cast-signed16
 cast-signed16 c = let h = small _ _ i16 (c .match .keys3) (c .before .pre) in omega arith
 
-signed16-requires : tie.Need-signed16-requires
-signed16-requires c κs = search needs
-
 cast-t8 : tie.Need-cast-t8
 cast-t8 c = let h = small _ _ u16 (c .match .keys4) (c .before .pre) in omega arith
 
 cast-signed32 : tie.Need-cast-signed32
 cast-signed32 c = let h = small _ _ i32 (c .match .keys5) (c .before .pre) in omega arith
 
-signed32-requires : tie.Need-signed32-requires
-signed32-requires c κs = search needs
-
 cast-t11 : tie.Need-cast-t11
 cast-t11 c = let h = small _ _ u32 (c .match .keys6) (c .before .pre) in omega arith
-
-signed64-requires : tie.Need-signed64-requires
-signed64-requires c κs = search needs
-
-double-requires : tie.Need-double-requires
-double-requires c κs = search needs
 
 cast-t13 : tie.Need-cast-t13
 cast-t13 c = let h = small _ _ fd (is-fd _ (c .before .pre .type) (c .before .pre .coded) (c .match .rest)) (c .before .pre) in omega arith
@@ -83,25 +71,4 @@ returns-10 c d e = told (λ t. fixedValue t (c .before .args .bits)) _ fd _ (is-
 
 pub value-spec : {M : Type 1} → statement M
 value-spec =
-    tie.close
-    (tie.spec
-    cast-t4
-    cast-signed16
-    signed16-requires
-    cast-t8
-    cast-signed32
-    signed32-requires
-    cast-t11
-    signed64-requires
-    double-requires
-    cast-t13
-    returns
-    returns-2
-    returns-3
-    returns-4
-    returns-5
-    returns-6
-    returns-7
-    returns-8
-    returns-9
-    returns-10)
+    tie.close (tie.spec cast-t4 cast-signed16 (λ c κs. search needs) cast-t8 cast-signed32 (λ c κs. search needs) cast-t11 (λ c κs. search needs) (λ c κs. search needs) cast-t13 returns returns-2 returns-3 returns-4 returns-5 returns-6 returns-7 returns-8 returns-9 returns-10)

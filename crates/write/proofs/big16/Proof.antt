@@ -9,23 +9,8 @@ use borrow.Author.Needs.{needs}
 use Rattle.write.proofs.big16.Statement.{statement}
 use Rattle.write.proofs.big16.Tie as tie
 
-low-requires : tie.Need-low-requires
-low-requires c κs = search needs
-
-slice-write-buf : tie.Need-slice-write-buf
-slice-write-buf c = search needs
-
-low-requires-2 : tie.Need-low-requires-2
-low-requires-2 c κs = search needs
-
-add-buf : tie.Need-add-buf
-add-buf c = search needs
-
 slice-write-buf-2 : tie.Need-slice-write-buf-2
 slice-write-buf-2 c = simp length-set (omega arith)
-
-same-length : tie.Need-same-length
-same-length c = search needs
 
 returns : tie.Need-returns
 unfolding store digits
@@ -35,12 +20,4 @@ returns c =
 
 pub big16-spec : {M : Type 1} → statement M
 big16-spec =
-    tie.close
-    (tie.spec
-    low-requires
-    slice-write-buf
-    low-requires-2
-    add-buf
-    slice-write-buf-2
-    same-length
-    returns)
+    tie.close (tie.spec (λ c κs. search needs) (λ c. search needs) (λ c κs. search needs) (λ c. search needs) slice-write-buf-2 (λ c. search needs) returns)

@@ -7,38 +7,14 @@ use borrow.Author.Needs.{needs}
 use Rattle.write.proofs.pad_to_align.Statement.{statement}
 use Rattle.write.proofs.pad_to_align.Tie as tie
 
-refuse-requires : tie.Need-refuse-requires
-refuse-requires c κs = search needs
-
 returns : tie.Need-returns
 returns c = outside _ _ _ (c .before .if1 .taken) _ (c .refuse .ensures)
-
-is-alignment-requires : tie.Need-is-alignment-requires
-is-alignment-requires c κs = search needs
 
 gap-requires : tie.Need-gap-requires
 gap-requires c κs = rw (sym (c .before .is-alignment .ensures) ∙ c .if2 .taken) tt
 
-sub-if3 : tie.Need-sub-if3
-sub-if3 c = search needs
-
-refuse-requires-2 : tie.Need-refuse-requires-2
-refuse-requires-2 c κs = search needs
-
 returns-2 : tie.Need-returns-2
 returns-2 c = is-bytes _ _ _ (c .before .before .before .before .before .if1 .left) _ (aligned _ _ _ (sym (c .before .before .before .before .is-alignment .ensures) ∙ c .before .before .before .if2 .taken) (c .before .before .gap .ensures)) _ _ (no-room _ _ (c .before .before .before .before .before .if1 .left) _ _ (sym (length-replicate _ 0)) (c .before .if3 .taken) _ (c .refuse2 .ensures))
-
-put-zeros-requires : tie.Need-put-zeros-requires
-put-zeros-requires c κs = search needs
-
-add-t13 : tie.Need-add-t13
-add-t13 c = search needs
-
-refuse-requires-3 : tie.Need-refuse-requires-3
-refuse-requires-3 c κs = search needs
-
-same-length : tie.Need-same-length
-same-length c = search needs
 
 returns-3 : tie.Need-returns-3
 returns-3 c = is-bytes _ _ _ (c .before .before .before .before .before .before .before .before .if1 .left) _ (aligned _ _ _ (sym (c .before .before .before .before .before .before .before .is-alignment .ensures) ∙ c .before .before .before .before .before .before .if2 .taken) (c .before .before .before .before .before .gap .ensures)) _ _ (stored _ _ (c .before .before .before .before .before .before .before .before .if1 .left) _ _ (sym (length-replicate _ 0)) (c .before .before .before .before .if3 .left) _ refl _ (c .before .before .put-zeros .ensures))
@@ -48,18 +24,4 @@ returns-4 c = is-faulty _ _ _ (c .before .before .before .if1 .left) _ (not-alig
 
 pub pad-to-align-spec : {M : Type 1} → statement M
 pad-to-align-spec =
-    tie.close
-    (tie.spec
-    refuse-requires
-    returns
-    is-alignment-requires
-    gap-requires
-    sub-if3
-    refuse-requires-2
-    returns-2
-    put-zeros-requires
-    add-t13
-    refuse-requires-3
-    same-length
-    returns-3
-    returns-4)
+    tie.close (tie.spec (λ c κs. search needs) returns (λ c κs. search needs) gap-requires (λ c. search needs) (λ c κs. search needs) returns-2 (λ c κs. search needs) (λ c. search needs) (λ c κs. search needs) (λ c. search needs) returns-3 returns-4)

@@ -6,41 +6,11 @@ use borrow.Author.Needs.{needs}
 use Rattle.write.proofs.write_string.Statement.{statement}
 use Rattle.write.proofs.write_string.Tie as tie
 
-refuse-requires : tie.Need-refuse-requires
-refuse-requires c κs = search needs
-
 returns : tie.Need-returns
 returns c = outside _ _ _ (c .before .if1 .taken) _ (c .refuse .ensures)
 
-refuse-requires-2 : tie.Need-refuse-requires-2
-refuse-requires-2 c κs = search needs
-
 returns-2 : tie.Need-returns-2
 returns-2 c = is-faulty _ _ _ (c .before .before .if1 .left) _ (too-long (c .before .before .before .before .before .args .order) (c .before .before .before .before .before .args .val .now) (c .before .if2 .taken)) _ (c .refuse2 .ensures)
-
-check-text-requires : tie.Need-check-text-requires
-check-text-requires c κs = search needs
-
-enum-told : tie.Need-enum-told
-enum-told c = search needs
-
-put-sized-requires : tie.Need-put-sized-requires
-put-sized-requires c κs = search needs
-
-enum-told-2 : tie.Need-enum-told-2
-enum-told-2 c = search needs
-
-refuse-requires-3 : tie.Need-refuse-requires-3
-refuse-requires-3 c κs = search needs
-
-enum-told-3 : tie.Need-enum-told-3
-enum-told-3 c = search needs
-
-refuse-requires-4 : tie.Need-refuse-requires-4
-refuse-requires-4 c κs = search needs
-
-same-length : tie.Need-same-length
-same-length c = search needs
 
 returns-3 : tie.Need-returns-3
 returns-3 c = is-bytes _ _ _ (c .before .before .before .before .before .before .before .before .if1 .left) _ (fine _ _ (c .before .before .before .before .before .before .before .if2 .left) (sym (c .before .before .before .before .enum-told .given .1) ∙ c .before .before .before .before .before .before .check-text .ensures)) _ _ (c .before .before .put-sized .ensures)
@@ -53,20 +23,4 @@ returns-5 c = is-faulty _ _ _ (c .before .before .before .before .before .if1 .l
 
 pub write-string-spec : {M : Type 1} → statement M
 write-string-spec =
-    tie.close
-    (tie.spec
-    refuse-requires
-    returns
-    refuse-requires-2
-    returns-2
-    check-text-requires
-    enum-told
-    put-sized-requires
-    enum-told-2
-    refuse-requires-3
-    enum-told-3
-    refuse-requires-4
-    same-length
-    returns-3
-    returns-4
-    returns-5)
+    tie.close (tie.spec (λ c κs. search needs) returns (λ c κs. search needs) returns-2 (λ c κs. search needs) (λ c. search needs) (λ c κs. search needs) (λ c. search needs) (λ c κs. search needs) (λ c. search needs) (λ c κs. search needs) (λ c. search needs) returns-3 returns-4 returns-5)
