@@ -1,3 +1,4 @@
+pub mod Booleans
 pub mod BaseMeets
 pub mod Local
 pub mod Meets

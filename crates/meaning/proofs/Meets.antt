@@ -18,6 +18,7 @@ use Rattle.meaning.specs.ReadValue.{at4, padding, pairR, elements, lengt
 use Rattle.meaning.specs.declared.Fault.the-variants.{NotEnoughBytes, PaddingContainedData}
 use Rattle.meaning.specs.declared.Order.{Order}
 use Rattle.meaning.specs.declared.Fault.{Fault}
+use Rattle.meaning.proofs.Booleans.{and-left, and-right}
 
 -- the bytes xs stand at off and end at e
 pub record At (b : List ℕ) (off : ℕ) (xs : List ℕ) (e : ℕ) : Type 0 where
@@ -113,14 +114,6 @@ pub zeros-replicate : (n : ℕ) → T (zeros (replicate n 0))
 unfolding zeros
 zeros-replicate zero = tt
 zeros-replicate (suc n) = zeros-replicate n
-
-and-left : (a b : Bool) → T (a && b) → T a
-and-left true b h = tt
-and-left false b h = h
-
-and-right : (a b : Bool) → T (a && b) → T b
-and-right true b h = h
-and-right false b h = absurd h
 
 pub zeros-are : (xs : List ℕ) → T (zeros xs) → xs ≡ replicate (length xs) 0
 unfolding zeros

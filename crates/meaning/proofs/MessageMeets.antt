@@ -31,6 +31,7 @@ use Rattle.meaning.specs.declared.Fault.the-variants.{WrongSignature, In
 use Rattle.meaning.specs.declared.Order.{Order}
 use Rattle.meaning.specs.declared.Order.the-variants.{Little, Big}
 use Rattle.meaning.specs.declared.Fault.{Fault}
+use Rattle.meaning.proofs.Booleans.{and-left, and-right}
 
 -- one thing and then another, which rests on it
 module _ {A : Type 0} {B : A → Type 0} (r : R A) (s : (x : A) → R (B x)) (f : A → Layout) (g : (x : A) → B x → Layout) (k : A → Cond) (l : (x : A) → B x → Cond)
@@ -312,14 +313,6 @@ mark-in c h = go (eqb c 108) (eqb c 66) refl refl h
     go true y e f t = sym (eq-cases c 108 true e tt)
     go false true e f t = sym (eq-cases c 66 true f tt)
     go false false e f t = absurd t
-
-and-left : (a b : Bool) → T (a && b) → T a
-and-left true b h = tt
-and-left false b h = h
-
-and-right : (a b : Bool) → T (a && b) → T b
-and-right true b h = h
-and-right false b h = absurd h
 
 kind-in : (c : ℕ) → T (isKind c) → kindCode (kindOf c) ≡ c
 kind-in c h = go (eqb c 1) (eqb c 2) (eqb c 3) refl refl refl

@@ -6,18 +6,7 @@ use mathlib.Core.List.{List, [], _∷_, _++_}
 use mathlib.Core.Path.{_≡_, refl, ap, sym, subst, _∙_}
 use lib.Dec.{eqb, T, eqb→eq, eqb-refl}
 use Rattle.meaning.specs.Text.{between, nameByte, nameBytes, isName, slashed, pathOf, areNames, IsPath, names, isPath}
-
-and-left : (a b : Bool) → T (a && b) → T a
-and-left true b h = tt
-and-left false b h = h
-
-and-right : (a b : Bool) → T (a && b) → T b
-and-right true b h = h
-and-right false b h = absurd h
-
-and-both : (a b : Bool) → T a → T b → T (a && b)
-and-both true b h k = k
-and-both false b h k = h
+use Rattle.meaning.proofs.Booleans.{and-left, and-right, and-both}
 
 -- a slash is no byte of a name
 not-slash : (c : ℕ) → T (nameByte c) → eqb c 47 ≡ false

@@ -12,7 +12,8 @@ use Rattle.meaning.specs.Types.{Base, inArray, loose, Ty, base, arr, dic
 use Rattle.meaning.specs.Signature.{code, isKey, notLoose, spell, spells, spellAll, shape, shapes, nest, legal, allLegal, Tok, isBase, isArr, isVar, isOpen, isClose, isCurl, isUncurl, isBad, toks, find, parse, types}
 use Rattle.meaning.specs.Places.{Spelled, TypeAt, Typed, shapeAll, listOf, FieldsAt, FieldsTyped, EntryAt, EntryTyped}
 use Rattle.meaning.proofs.Meets.{At, at-split, at-join, at-read}
-use Rattle.meaning.proofs.SignatureLaws.{find-base, parse-sound, and-left, and-right, and-both}
+use Rattle.meaning.proofs.SignatureLaws.{find-base, parse-sound}
+use Rattle.meaning.proofs.Booleans.{and-left, and-right, and-both}
 
 -- Bytes at a place. `At` says the same with no end of the list, so its laws are used
 pub spelled-at : {xs s : List ℕ} {p e : ℕ} → Spelled xs s p e → At s p xs e

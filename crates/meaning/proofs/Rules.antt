@@ -9,6 +9,7 @@ use mathlib.Core.Logic.{_↔_}
 use lib.Dec.{leb, T, leb→le, le→leb}
 use Rattle.meaning.specs.declared.MessageType.{MessageType}
 use Rattle.meaning.specs.declared.MessageType.the-variants.{Call, Reply, Error, Signal}
+use Rattle.meaning.proofs.Booleans.{and-left, and-right, and-both}
 use Rattle.meaning.specs.Signature.{code}
 use Rattle.meaning.specs.Message.{Wants, nothing, exactly, anything, wants, Field, count, every, needed, knownCodes, complete}
 
@@ -35,14 +36,6 @@ Required Signal fs = (1 ≤ count 1 fs) × (1 ≤ count 2 fs) × (1 ≤ count 3 
 abbrev pub Once : List Field → Type 0
 Once fs = (c : ℕ) → 1 ≤ c → c ≤ 9 → count c fs ≤ 1
 
-split : (a b : Bool) → T (a && b) → T a × T b
-split true b h = (tt, h)
-split false b h = absurd h
-
-join : (a b : Bool) → T a → T b → T (a && b)
-join true b g h = h
-join false b g h = g
-
 -- a test of every code in a list is a rule for each
 abbrev All : (ℕ → Type 0) → List ℕ → Type 0
 All P [] = Unit {0}
@@ -51,11 +44,11 @@ All P (c ∷ cs) = P c × All P cs
 module _ (p : ℕ → Bool) (P : ℕ → Type 0) (yes : (c : ℕ) → T (p c) → P c) (back : (c : ℕ) → P c → T (p c)) where
   every-all : (cs : List ℕ) → T (every p cs) → All P cs
   every-all [] h = tt
-  every-all (c ∷ cs) h = let s = split (p c) (every p cs) h in (yes c (s .0), every-all cs (s .1))
+  every-all (c ∷ cs) h = (yes c (and-left (p c) (every p cs) h), every-all cs (and-right (p c) (every p cs) h))
 
   all-every : (cs : List ℕ) → All P cs → T (every p cs)
   all-every [] h = tt
-  all-every (c ∷ cs) h = join (p c) (every p cs) (back c (h .0)) (all-every cs (h .1))
+  all-every (c ∷ cs) h = and-both (p c) (every p cs) (back c (h .0)) (all-every cs (h .1))
 
 module _ (fs : List Field) where
   there : (cs : List ℕ) → T (every (λ c. leb 1 (count c fs)) cs) → All (λ c. 1 ≤ count c fs) cs
@@ -98,6 +91,6 @@ module _ (fs : List Field) where
 pub complete-is : (k : MessageType) (fs : List Field) → T (complete k fs) ↔ (Required k fs × Once fs)
 unfolding complete
 complete-is k fs = (
-  λ h. (let s = split (every (λ c. leb 1 (count c fs)) (needed k)) (every (λ c. leb (count c fs) 1) knownCodes) h in (required fs k .0 (s .0), once fs .0 (s .1))),
-  λ r. join (every (λ c. leb 1 (count c fs)) (needed k)) (every (λ c. leb (count c fs) 1) knownCodes) (required fs k .1 (r .0)) (once fs .1 (r .1)),
+  λ h. (required fs k .0 (and-left (every (λ c. leb 1 (count c fs)) (needed k)) (every (λ c. leb (count c fs) 1) knownCodes) h), once fs .0 (and-right (every (λ c. leb 1 (count c fs)) (needed k)) (every (λ c. leb (count c fs) 1) knownCodes) h)),
+  λ r. and-both (every (λ c. leb 1 (count c fs)) (needed k)) (every (λ c. leb (count c fs) 1) knownCodes) (required fs k .1 (r .0)) (once fs .1 (r .1)),
 )

@@ -12,6 +12,7 @@ use Rattle.meaning.specs.Types.{Fix, byte, bool, i16, u16, i32, u32, i64
 use Rattle.meaning.specs.Signature.{codeFix, code, opening, spell, spells, spellAll, nest, isKey, notLoose, shape, shapes, legal, Tok, isBase, isArr, isVar, isOpen, isClose, isCurl, isUncurl, isBad, codeTok, toks, find, snoc, Stack, floor, open0, open1, inArr, needKey, needVal, needEnd, Step, to, bad, put, keyed, putBase, begin, curl, close, uncurl, step, run, Parsed, types, refused, allLegal, allNest, finish, parse}
 use Rattle.meaning.specs.declared.Fault.the-variants.{InvalidSignature, EmptyStruct, SignatureTooLong, NestingTooDeep}
 use Rattle.meaning.specs.declared.Fault.{Fault}
+use Rattle.meaning.proofs.Booleans.{and-left, and-right, and-both}
 
 -- what has been read, from what is open
 unfoldable pub spellStack : Stack → List ℕ
@@ -166,18 +167,6 @@ run-spell (c ∷ cs) k j h = go (step (find toks c) k) refl (λ i q. run-spell c
     go (bad n) e ih b = not-bad n j (ap (λ (x : Step). next x cs) (sym e) ∙ sym (run-cons c cs k) ∙ h)
 
 -- what the pass builds has the shape that a type must have
-pub and-left : (a b : Bool) → T (a && b) → T a
-and-left true b h = tt
-and-left false b h = h
-
-pub and-right : (a b : Bool) → T (a && b) → T b
-and-right true b h = h
-and-right false b h = absurd h
-
-pub and-both : (a b : Bool) → T a → T b → T (a && b)
-and-both true b h k = k
-and-both false b h k = h
-
 allShape : List Ty → Bool
 allShape [] = true
 allShape (e ∷ es) = shape e && allShape es

@@ -9,6 +9,7 @@ use lib.ListN.{length}
 use lib.Dec.{eqb·suc-zero, leb, ltb, eqb, T, leb→le, le→leb}
 use Rattle.meaning.proofs.Local.{Cmp, isLe, isGt, cmp, leb-true, leb-false}
 use Rattle.meaning.specs.Text.{Scalar, pick, encode, encodeAll, All, IsUtf8, between, Lead, follow, noLead, or, lead, scan, utf8}
+use Rattle.meaning.proofs.Booleans.{and-left, and-right}
 
 below : (c n : ℕ) → c < n → ltb c n ≡ true
 below c n h = leb-true (suc c) n h
@@ -152,14 +153,6 @@ scan-none c cs lo hi e = rw (e, scan)
 scan-next : (c : ℕ) (cs : List ℕ) (n lo hi : ℕ) → lo ≤ c → c ≤ hi → scan (c ∷ cs) (suc n) lo hi ≡ scan cs n 0x80 0xbf
 unfolding scan
 scan-next c cs n lo hi h k = rw (leb-true lo c h, leb-true c hi k, scan)
-
-and-left : (a b : Bool) → T (a && b) → T a
-and-left true b h = tt
-and-left false b h = h
-
-and-right : (a b : Bool) → T (a && b) → T b
-and-right true b h = h
-and-right false b h = absurd h
 
 scan-next-inv : (c : ℕ) (cs : List ℕ) (n lo hi : ℕ) → T (scan (c ∷ cs) (suc n) lo hi) → (lo ≤ c) × (c ≤ hi) × T (scan cs n 0x80 0xbf)
 unfolding scan

@@ -1,4 +1,4 @@
--- Demands 2 and 3, and one value one spelling, of the answer that a check gives.
+-- Demands 2 and 3 of the answer that the check of a value gives.
 use Prim.Native.Nat.{ℕ, zero, suc, _+_, _-_, _%_, _≤_, _<_}
 use native.Mathlib.Omega.{arith}
 use mathlib.Core.Bool.{Bool, true, false, _||_}
@@ -15,11 +15,10 @@ use Rattle.meaning.specs.Signature.{parse, Parsed, types, refused}
 use Rattle.meaning.specs.declared.Checked.the-variants.{Accepted, Refused}
 use Rattle.meaning.specs.declared.Checked.{Checked}
 use Rattle.meaning.proofs.NumberLaws.{Bytes}
-use Rattle.meaning.specs.Value.{encode, Fits, Encodes}
+use Rattle.meaning.specs.Value.{Encodes}
 use Rattle.meaning.specs.ReadValue.{readTop, taken, no, checkedOf, checkAt, Opt, the, not1, onlyOne, checkValue}
 use Rattle.meaning.proofs.ValueLocal.{readTop-local}
-use Rattle.meaning.proofs.Meets.{At}
-use Rattle.meaning.proofs.ValueMeets.{accepted-encodes, encodes-accepted, top-meets}
+use Rattle.meaning.proofs.ValueMeets.{accepted-encodes, encodes-accepted}
 use Rattle.meaning.specs.declared.Refusal.{Refusal}
 use Rattle.meaning.specs.Faults.{numberOf}
 use Rattle.meaning.specs.declared.Order.{Order}
@@ -107,10 +106,3 @@ module _ (o : Order) (s : List ℕ) (t : Ty) (one-type : onlyOne (parse s) ≡ t
       let w = short-inv (readTop o t (take m b) off) c in
       let l : length (take m b) ≡ m = length-take-le m b (omega arith) in
       (w .0, checkValue-is o s t (take m b) off one-type (rw l lo) ∙ ap (checkedOf off) (w .1), w .2)
-
--- One value, one spelling (No. 14), at one offset: equal bytes hold equal values
-pub one-value : (o : Order) (t : Ty) (b : List ℕ) (off : ℕ) (v w : Value t) (e : ℕ) → Fits o t v off → Fits o t w off → At b off (encode o t v off) e → At b off (encode o t w off) e → e ≤ length b → v ≡ w
-one-value o t b off v w e fv fw av aw l =
-    let p : readTop o t b off ≡ got v e = top-meets o t .complete b off v e fv av l in
-    let q : readTop o t b off ≡ got w e = top-meets o t .complete b off w e fw aw l in
-    cc

@@ -1,4 +1,4 @@
--- Demand 3 for values: every reader of Read.antt is local, by its combinators.
+-- Demand 3 for values: every reader of ReadValue.antt is local, by its combinators.
 use Prim.Native.Nat.{ℕ, zero, suc, _+_, _%_, _≤_, _<_}
 use native.Mathlib.Omega.{arith}
 use mathlib.Core.Bool.{Bool, true, false}

@@ -22,6 +22,7 @@ use Rattle.meaning.proofs.Local.{bind-local}
 use Rattle.meaning.proofs.Meets.{At, at-read, at-then, then-at, at-bytes, Meets, here-bind, length-pad, padded, paired, counteds, mid-le}
 use Rattle.meaning.proofs.BaseMeets.{bases, sig-sound, sig-complete}
 use Rattle.meaning.specs.declared.Order.{Order}
+use Rattle.meaning.proofs.Booleans.{and-left}
 
 -- every complete type takes a byte at least
 pub ne-then : (f g : Layout) (off : ℕ) → 1 ≤ length (g (off + length (f off))) → 1 ≤ length ((f ▹ g) off)
@@ -199,10 +200,6 @@ single-inv (e ∷ d ∷ ds) p b off t m h = absurd (let z : _≡_ {A = ℕ} 0 1 
 single-got : (t : Ty) (p : ℕ) (b : List ℕ) (off : ℕ) → single (t ∷ []) p b off ≡ got t off
 unfolding single ret
 single-got t p b off = refl
-
-and-left : (a b : Bool) → T (a && b) → T a
-and-left true b h = tt
-and-left false b h = h
 
 and-true : (a : Bool) → T a → T (a && true)
 and-true true h = tt
