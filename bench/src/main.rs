@@ -1,5 +1,6 @@
 //! bench time: ratios to the original crate on 60 KiB of each type.  bench worst: the cost per byte of hard inputs.
 //! bench stack KIB: checks the deepest value on a thread with that much stack.
+//! bench run TYPE crate|library N: N checks of that type's 60 KiB, for a tool that counts instructions.
 use rustbus::signature::Type;
 use rustbus::wire::{util, validate_raw::validate_marshalled};
 use rustbus::ByteOrder::LittleEndian as LE;
@@ -142,9 +143,23 @@ fn measure(sides: &[&dyn Fn() -> u64], rounds: usize) -> Vec<Vec<f64>> {
     times
 }
 
+const TYPES: [&str; 7] = ["a{s(yx)}", "a(qqn)", "as", "ai", "av", "a(vv)", "s"];
+
+fn run(sig: &str, side: &str, n: u64) {
+    let b = body(sig);
+    let t = Type::parse_description(sig).unwrap().remove(0);
+    for _ in 0..n {
+        if side == "crate" {
+            black_box(validate_marshalled(LE, 0, black_box(&b), &t).unwrap());
+        } else {
+            black_box(ours(black_box(&b), sig.as_bytes()));
+        }
+    }
+}
+
 fn time() {
     println!("{:10} {:>12} {:>12} {:>10} {:>10}", "type", "crate ns", "library ns", "minima", "medians");
-    for sig in ["a{s(yx)}", "a(qqn)", "as", "ai", "av", "a(vv)", "s"] {
+    for sig in TYPES {
         let b = body(sig);
         let t = Type::parse_description(sig).unwrap().remove(0);
         assert_eq!(ours(&b, sig.as_bytes()), b.len() as u64, "{sig}");
@@ -233,6 +248,7 @@ fn main() {
     match words.get(1).map(String::as_str) {
         Some("time") => time(),
         Some("worst") => worst(),
+        Some("run") => run(&words[2], &words[3], words[4].parse().unwrap()),
         Some("stack") => {
             let kib: usize = words[2].parse().unwrap();
             let buf = deepest();
@@ -240,6 +256,6 @@ fn main() {
             let run = move || assert_eq!(ours(&buf, b"v"), n);
             std::thread::Builder::new().stack_size(kib * 1024).spawn(run).unwrap().join().unwrap();
         }
-        _ => eprintln!("bench time | worst | stack KIB"),
+        _ => eprintln!("bench time | worst | stack KIB | run TYPE crate|library N"),
     }
 }
