@@ -179,21 +179,21 @@ pub fn write_u16(val: u16, order: Order, buf: &mut [u8], place: Place) -> Writte
     ensures { λ r. ⌜ r ≡ writeAt (integerBytes order 2 val) (now (buf .entry)) (place .0) .answer ⌝ }
     ensures { λ r. ⌜ now (buf .exit) ≡ writeAt (integerBytes order 2 val) (now (buf .entry)) (place .0) .after ⌝ }
 {
-    write_integer(2, val as u64, order, buf, place.0)
+    write_integer(types::size(b'q'), val as u64, order, buf, place.0)
 }
 
 pub fn write_u32(val: u32, order: Order, buf: &mut [u8], place: Place) -> Written
     ensures { λ r. ⌜ r ≡ writeAt (integerBytes order 4 val) (now (buf .entry)) (place .0) .answer ⌝ }
     ensures { λ r. ⌜ now (buf .exit) ≡ writeAt (integerBytes order 4 val) (now (buf .entry)) (place .0) .after ⌝ }
 {
-    write_integer(4, val as u64, order, buf, place.0)
+    write_integer(types::size(b'u'), val as u64, order, buf, place.0)
 }
 
 pub fn write_u64(val: u64, order: Order, buf: &mut [u8], place: Place) -> Written
     ensures { λ r. ⌜ r ≡ writeAt (integerBytes order 8 val) (now (buf .entry)) (place .0) .answer ⌝ }
     ensures { λ r. ⌜ now (buf .exit) ≡ writeAt (integerBytes order 8 val) (now (buf .entry)) (place .0) .after ⌝ }
 {
-    write_integer(8, val, order, buf, place.0)
+    write_integer(types::size(b't'), val, order, buf, place.0)
 }
 
 // Its length is looked at before its bytes, and its bytes before the room that it needs.
