@@ -174,26 +174,38 @@ fn signature(val: &[u8], room: usize, at: usize)
     attempt(What::Signature, val, Order::Little, room, at);
 }
 
-// At the place: room exact, one byte short, none (the place is the end), and the place beyond.
-fn integers(order: Order) {
+// Each width with room to spare, exact, one byte short, none (the place is the end), and with the place beyond.
+fn sixteens(order: Order) {
     u16_at(0x0102, order, 12, 3);
     u16_at(0, order, 2, 0);
     u16_at(0xffff, order, 3, 1);
     u16_at(0x0102, order, 2, 1);
     u16_at(0x0102, order, 2, 2);
     u16_at(0x0102, order, 2, 3);
+}
+
+fn thirty_twos(order: Order) {
     u32_at(0x0102_0304, order, 12, 3);
     u32_at(0, order, 4, 0);
     u32_at(0xffff_ffff, order, 7, 3);
     u32_at(0x0102_0304, order, 6, 3);
     u32_at(0x0102_0304, order, 6, 6);
     u32_at(0x0102_0304, order, 6, 7);
+}
+
+fn sixty_fours(order: Order) {
     u64_at(0x0102_0304_0506_0708, order, 12, 3);
     u64_at(0, order, 8, 0);
     u64_at(0xffff_ffff_ffff_ffff, order, 9, 1);
     u64_at(0x0102_0304_0506_0708, order, 8, 1);
     u64_at(0x0102_0304_0506_0708, order, 8, 8);
     u64_at(0x0102_0304_0506_0708, order, 0, 1);
+}
+
+fn integers(order: Order) {
+    sixteens(order);
+    thirty_twos(order);
+    sixty_fours(order);
 }
 
 fn pads() {
@@ -205,6 +217,9 @@ fn pads() {
     pad(8, 12, 1);
     pad(8, 12, 8);
     pad(8, 8, 1);
+}
+
+fn no_pads() {
     pad(8, 7, 1);
     pad(8, 8, 8);
     pad(8, 9, 9);
@@ -215,19 +230,25 @@ fn pads() {
     pad(3, 8, 9);
 }
 
-// A wrong text is refused before its room is looked at, and the place before the text.
-fn strings(order: Order) {
+fn short_strings(order: Order) {
     string(b"", order, 5, 0);
     string(b"", order, 4, 0);
     string(b"k1", order, 12, 3);
     string(b"k1", order, 7, 0);
     string(b"k1", order, 6, 0);
     string(b"k1", order, 12, 5);
+}
+
+fn misplaced_strings(order: Order) {
     string(b"k1", order, 12, 6);
     string(b"k1", order, 12, 12);
     string(b"k1", order, 12, 13);
     string(b"\xf4\x8f\xbf\xbf", order, 9, 0);
     string(b"\xf4\x90\x80\x80", order, 9, 0);
+}
+
+// A wrong text is refused before its room is looked at, and the place before the text.
+fn wrong_strings(order: Order) {
     string(b"\xff", order, 0, 0);
     string(b"\xff", order, 0, 1);
     string(b"\x00", order, 12, 0);
@@ -235,24 +256,43 @@ fn strings(order: Order) {
     string(b"k\x00", order, 2, 2);
 }
 
+fn strings(order: Order) {
+    short_strings(order);
+    misplaced_strings(order);
+    wrong_strings(order);
+}
+
 fn signatures() {
-    let long = [b'y'; 256];
-    let most = [b'y'; 255];
-    let deep = [b'a'; 33];
     signature(b"", 2, 0);
     signature(b"", 1, 0);
     signature(b"a{sv}", 12, 3);
     signature(b"a{sv}", 7, 0);
     signature(b"a{sv}", 6, 0);
     signature(b"y", 12, 10);
+}
+
+fn wrong_signatures() {
     signature(b"y", 12, 12);
     signature(b"y", 12, 13);
     signature(b"z()", 12, 0);
     signature(b"()z", 0, 0);
     signature(b"a", 0, 0);
     signature(b"a", 0, 1);
+}
+
+// Nested too deep if it were whole; as long as may be; one byte longer.
+fn deep_signature() {
+    let deep = [b'a'; 33];
     signature(&deep, 12, 0);
+}
+
+fn longest_signature() {
+    let most = [b'y'; 255];
     signature(&most, 12, 1);
+}
+
+fn too_long_signature() {
+    let long = [b'y'; 256];
     signature(&long, 12, 2);
 }
 
@@ -370,7 +410,7 @@ fn eight(buf: &[u8]) {
     fixed(b"d", buf, 0);
 }
 
-fn numbers() {
+fn narrow() {
     fixed(b"y", b"\x00", 0);
     fixed(b"y", b"\xff", 0);
     two(b"\x00\x00");
@@ -378,12 +418,18 @@ fn numbers() {
     two(b"\xff\xff");
     two(b"\x00\x80");
     two(b"\xff\x7f");
+}
+
+fn middle() {
     four(b"\x00\x00\x00\x00");
     four(b"\x01\x00\x00\x00");
     four(b"\xff\xff\xff\xff");
     four(b"\x00\x00\x00\x80");
     four(b"\xff\xff\xff\x7f");
     four(b"\x02\x00\x00\x00");
+}
+
+fn full() {
     eight(b"\x00\x00\x00\x00\x00\x00\x00\x00");
     eight(b"\x01\x00\x00\x00\x00\x00\x00\x00");
     eight(b"\xff\xff\xff\xff\xff\xff\xff\xff");
@@ -391,7 +437,7 @@ fn numbers() {
     eight(b"\xff\xff\xff\xff\xff\xff\xff\x7f");
 }
 
-// One, one and a half, both infinities, the NaNs next to them, quiet ones with payloads, and the largest, smallest normal and largest subnormal.
+// One, one and a half, both infinities, and the NaNs next to them.
 fn doubles() {
     fixed(b"d", b"\x00\x00\x00\x00\x00\x00\xf0\x3f", 0);
     fixed(b"d", b"\x3f\xf8\x00\x00\x00\x00\x00\x00", 0);
@@ -399,6 +445,10 @@ fn doubles() {
     fixed(b"d", b"\x00\x00\x00\x00\x00\x00\xf0\xff", 0);
     fixed(b"d", b"\x01\x00\x00\x00\x00\x00\xf0\x7f", 0);
     fixed(b"d", b"\x01\x00\x00\x00\x00\x00\xf0\xff", 0);
+}
+
+// A quiet NaN with a payload, one of all ones, and the largest, smallest normal and largest subnormal doubles.
+fn more_doubles() {
     fixed(b"d", b"\x7f\xf8\x00\x00\x00\x00\x00\x09", 0);
     fixed(b"d", b"\xff\xff\xff\xff\xff\xff\xff\xff", 0);
     fixed(b"d", b"\xff\xff\xff\xff\xff\xff\xef\x7f", 0);
@@ -406,14 +456,18 @@ fn doubles() {
     fixed(b"d", b"\xff\xff\xff\xff\xff\xff\x0f\x00", 0);
 }
 
-// 26, 1, the padding's faults, 2 behind it, in this order.
-fn refused() {
+// 26 before 1.
+fn no_fixed_types() {
     fixed(b"", b"", 9);
     fixed(b"s", b"", 9);
     fixed(b"yy", b"\x00\x00", 9);
     fixed(b"(y)", b"\x00\x00", 9);
     fixed(b"v", b"\x00\x00", 0);
     fixed(b"z", b"\x00\x00", 0);
+}
+
+// 1, then the padding's faults, then 2 behind it.
+fn short() {
     fixed(b"y", b"\x07", 2);
     fixed(b"y", b"\x07", 1);
     fixed(b"n", b"\x07", 1);
@@ -421,6 +475,9 @@ fn refused() {
     fixed(b"n", b"\x07\x00\x00", 1);
     fixed(b"n", b"\x07\x00\x05\x00", 1);
     fixed(b"n", b"\x07\x08\x05\x00", 1);
+}
+
+fn padded() {
     fixed(b"b", b"\x07\x00\x00\x00\x00\x00\x00\x00", 1);
     fixed(b"b", b"\x07\x00\x00\x00\x02\x00\x00\x00", 1);
     fixed(b"b", b"\x07\x00\x01\x00\x02\x00\x00\x00", 1);
@@ -428,14 +485,32 @@ fn refused() {
     fixed(b"d", b"\x07\x00\x00\x00\x02\x00\x00\x00", 8);
 }
 
-fn main() {
+fn writers() {
     integers(Order::Little);
     integers(Order::Big);
     pads();
+    no_pads();
     strings(Order::Little);
     strings(Order::Big);
     signatures();
-    numbers();
+    wrong_signatures();
+    deep_signature();
+    longest_signature();
+    too_long_signature();
+}
+
+fn readers() {
+    narrow();
+    middle();
+    full();
     doubles();
-    refused();
+    more_doubles();
+    no_fixed_types();
+    short();
+    padded();
+}
+
+fn main() {
+    writers();
+    readers();
 }
