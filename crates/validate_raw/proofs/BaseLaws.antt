@@ -25,7 +25,7 @@ use Rattle.meaning.proofs.PlaceLaws.{same-code}
 use Rattle.meaning.proofs.Loop.{at-inv, refused-inv}
 use Rattle.types.specs.Codes.{alignCode, sizeCode}
 use Rattle.types.proofs.CodeLaws.{align-base, size-fix, size-is-alignment}
-use Rattle.validate_raw.specs.Walk.{AnyBits, Further}
+use Rattle.validate_raw.specs.Walk.{AnyBits}
 
 module _ (o : Order) (c : Fix) (b : List ℕ) (end off : ℕ) (ends : length b ≡ end) where
   abbrev tested : ℕ → List ℕ → R ℕ
@@ -51,6 +51,27 @@ module _ (o : Order) (c : Fix) (b : List ℕ) (end off : ℕ) (ends : length b �
     pub number-wrong : (x : Refusal) → valid c (load o bits) ≡ false → x ≡ refusal InvalidBoolean off → Refused x ≡ reachedOf (readFix o c b off)
     unfolding check
     number-wrong x v e = rw e (sym (ap reachedOf (there ∙ bind-fault (check (valid c (load o bits)) InvalidBoolean off) (λ z. ret (load o bits)) b (off + size c) (refusal InvalidBoolean off) (rw (v, check)))))
+
+-- which basic type a code is: those with a reader of their own, and the numbers of which any bits are a value
+pub record IsNumber (c : Base) : Type 0 where
+  pub of : Fix
+  pub is : c ≡ fix of
+  pub any : AnyBits of
+
+pub is-number : (c : Base) → (code c ≡ 115 → ⊥) → (code c ≡ 111 → ⊥) → (code c ≡ 103 → ⊥) → (code c ≡ 98 → ⊥) → IsNumber c
+is-number (fix byte) s p g b = record { of = byte; is = refl; any = λ x. tt }
+is-number (fix bool) s p g b = absurd (b refl)
+is-number (fix i16) s p g b = record { of = i16; is = refl; any = λ x. tt }
+is-number (fix u16) s p g b = record { of = u16; is = refl; any = λ x. tt }
+is-number (fix i32) s p g b = record { of = i32; is = refl; any = λ x. tt }
+is-number (fix u32) s p g b = record { of = u32; is = refl; any = λ x. tt }
+is-number (fix i64) s p g b = record { of = i64; is = refl; any = λ x. tt }
+is-number (fix u64) s p g b = record { of = u64; is = refl; any = λ x. tt }
+is-number (fix dbl) s p g b = record { of = dbl; is = refl; any = λ x. tt }
+is-number (fix fd) s p g b = record { of = fd; is = refl; any = λ x. tt }
+is-number str s p g b = absurd (s refl)
+is-number path s p g b = absurd (p refl)
+is-number sig s p g b = absurd (g refl)
 
 -- a basic value is its padding and its bytes
 module _ (o : Order) (c : Base) (b : List ℕ) (off : ℕ) where
@@ -94,47 +115,3 @@ size-aligns c n h = rw (size-is c n h) (size-is-alignment c)
 pub as-number : (o : Order) (b : List ℕ) (off : ℕ) (f : Fix) (c : Base) (n k : ℕ) (r : Reached) → AnyBits f → k ≡ code c → k ≡ codeFix f → n ≡ sizeCode (codeFix f)
     → ((o : Order) (d : Fix) → AnyBits d → n ≡ size d → r ≡ reachedOf (baseR o (fix d) b off)) → r ≡ reachedOf (baseR o c b off)
 as-number o b off f c n k r any e g s h = rw (same-code c (fix f) (sym e ∙ g)) (h o f any (size-is f n s))
-
--- what is no number is tested further
-pub further : (c : Base) (k : ℕ) → k ≡ code c → ((f : Fix) → AnyBits f → k ≡ codeFix f → ⊥) → Further c
-further (fix byte) k e n = n byte (λ x. tt) e
-further (fix bool) k e n = tt
-further (fix i16) k e n = n i16 (λ x. tt) e
-further (fix u16) k e n = n u16 (λ x. tt) e
-further (fix i32) k e n = n i32 (λ x. tt) e
-further (fix u32) k e n = n u32 (λ x. tt) e
-further (fix i64) k e n = n i64 (λ x. tt) e
-further (fix u64) k e n = n u64 (λ x. tt) e
-further (fix dbl) k e n = n dbl (λ x. tt) e
-further (fix fd) k e n = n fd (λ x. tt) e
-further str k e n = tt
-further path k e n = tt
-further sig k e n = tt
-
-pub is-bool : (c : Base) (k : ℕ) → k ≡ code c → (k ≡ 115 → ⊥) → (k ≡ 111 → ⊥) → (k ≡ 103 → ⊥) → Further c → c ≡ fix bool
-is-bool (fix byte) k e s p g f = absurd f
-is-bool (fix bool) k e s p g f = refl
-is-bool (fix i16) k e s p g f = absurd f
-is-bool (fix u16) k e s p g f = absurd f
-is-bool (fix i32) k e s p g f = absurd f
-is-bool (fix u32) k e s p g f = absurd f
-is-bool (fix i64) k e s p g f = absurd f
-is-bool (fix u64) k e s p g f = absurd f
-is-bool (fix dbl) k e s p g f = absurd f
-is-bool (fix fd) k e s p g f = absurd f
-is-bool str k e s p g f = absurd (s e)
-is-bool path k e s p g f = absurd (p e)
-is-bool sig k e s p g f = absurd (g e)
-
-pub none-of : (k : ℕ) → (k ≡ 121 → ⊥) → (k ≡ 110 → ⊥) → (k ≡ 113 → ⊥) → (k ≡ 105 → ⊥) → (k ≡ 117 → ⊥) → (k ≡ 120 → ⊥) → (k ≡ 116 → ⊥) → (k ≡ 100 → ⊥) → (k ≡ 104 → ⊥)
-    → (f : Fix) → AnyBits f → k ≡ codeFix f → ⊥
-none-of k y n q i u x t d h byte a e = y e
-none-of k y n q i u x t d h bool a e = absurd (a 2)
-none-of k y n q i u x t d h i16 a e = n e
-none-of k y n q i u x t d h u16 a e = q e
-none-of k y n q i u x t d h i32 a e = i e
-none-of k y n q i u x t d h u32 a e = u e
-none-of k y n q i u x t d h i64 a e = x e
-none-of k y n q i u x t d h u64 a e = t e
-none-of k y n q i u x t d h dbl a e = d e
-none-of k y n q i u x t d h fd a e = h e

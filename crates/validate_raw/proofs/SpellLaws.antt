@@ -101,11 +101,11 @@ module _ (o : Order) (b : List ℕ) (off : ℕ) where
       go (got ts e) h = ap reachedOf (spelled-then (λ p s ts. ret s) ts e h) ∙ sym (ap reachedOf h)
       go (fault x) h = ap reachedOf (spelled-fault (λ p s ts. ret s) x h) ∙ sym (ap reachedOf h)
 
-counted-types : (q : Parsed) (n : ℕ) → Counts n ≡ countedOf q → (ts : List Ty) × (q ≡ types ts) × (n ≡ length ts)
+pub counted-types : (q : Parsed) (n : ℕ) → Counts n ≡ countedOf q → (ts : List Ty) × (q ≡ types ts) × (n ≡ length ts)
 counted-types (types ts) n h = (ts, refl, cc)
 counted-types (refused k) n h = absurd (let z : _≡_ {A = ℕ} 0 1 = cc in omega arith)
 
-counted-refused : (q : Parsed) (x : Refusal) → Uncounted x ≡ countedOf q → (k : Fault) × (q ≡ refused k) × (x ≡ refusal k 0)
+pub counted-refused : (q : Parsed) (x : Refusal) → Uncounted x ≡ countedOf q → (k : Fault) × (q ≡ refused k) × (x ≡ refusal k 0)
 counted-refused (types ts) x h = absurd (let z : _≡_ {A = ℕ} 0 1 = cc in omega arith)
 counted-refused (refused k) x h = (k, refl, cc)
 
@@ -121,16 +121,16 @@ module _ (o : Order) (buf : List ℕ) (end off : ℕ) (w : Window buf end off) w
       ∙ bind-fault (readSig o) (λ s. accept (parse s) off) seenPart off x (refused-inv (readSig o seenPart off) x h)))
 
   module _ (p : Place) (h : reachedOf (readSig o seenPart off) ≡ Reaches p) where
-    text : (s : List ℕ) × (readSig o seenPart off ≡ got s (p .0))
+    pub text : (s : List ℕ) × (readSig o seenPart off ≡ got s (p .0))
     text = at-inv (readSig o seenPart off) p h
 
-    stands : TextAt seenPart off (text .0) (p .0)
+    pub stands : TextAt seenPart off (text .0) (p .0)
     stands = text-at o seenPart off (text .0) (p .0) (text .1)
 
     pub text-within : (off + 2 ≤ p .0) × (p .0 ≤ end)
     text-within = let l : length seenPart ≡ end = length-take-le end buf (w .held) in (omega (arith, stands .ends), omega (arith, stands .within))
 
-    same-text : take (p .0 - 1 - (off + 1)) (drop (off + 1) buf) ≡ text .0
+    pub same-text : take (p .0 - 1 - (off + 1)) (drop (off + 1) buf) ≡ text .0
     same-text =
         let n : p .0 - 1 - (off + 1) ≡ length (text .0) = omega (arith, stands .ends) in
         ap (λ (k : ℕ). take k (drop (off + 1) buf)) n

@@ -14,7 +14,7 @@ use Rattle.meaning.specs.declared.Fault.the-variants.{NotEnoughBytesForCollecti
 use Rattle.meaning.specs.declared.Reached.{Reached}
 use Rattle.meaning.specs.declared.Reached.the-variants.{At, Refused}
 use Rattle.meaning.specs.Faults.{refusal}
-use Rattle.meaning.specs.Types.{Fix, byte, bool, i16, u16, i32, u32, i64, u64, dbl, fd, Base, fix, str, path, sig, Ty, Raw, Of, Var}
+use Rattle.meaning.specs.Types.{Fix, Base, Ty, Raw, Of, Var}
 use Rattle.meaning.specs.Signature.{code, parse}
 use Rattle.meaning.specs.Reader.{Res, got, fault, R, ret, here, _>>=_, _>>_, ahead, reachedOf}
 use Rattle.meaning.specs.ReadValue.{valid, padding, readSig, accept, single, lengthR, baseR, pairR, read, readVar}
@@ -94,22 +94,6 @@ pub record BaseCode (k : ℕ) : Type 0 where
 -- a fixed type of which any bits are a value: all but a Boolean
 abbrev pub AnyBits : Fix → Type 0
 AnyBits c = (x : ℕ) → T (valid c x)
-
--- a basic type of which not any bits are a value
-abbrev pub Further : Base → Type 0
-Further (fix byte) = ⊥
-Further (fix bool) = Unit {0}
-Further (fix i16) = ⊥
-Further (fix u16) = ⊥
-Further (fix i32) = ⊥
-Further (fix u32) = ⊥
-Further (fix i64) = ⊥
-Further (fix u64) = ⊥
-Further (fix dbl) = ⊥
-Further (fix fd) = ⊥
-Further str = Unit {0}
-Further path = Unit {0}
-Further sig = Unit {0}
 
 -- "Arrays of y n q u x t h d are only tested for a whole number of elements": the size of such an element by its code, 0 for any other
 unfoldable pub wholeCode : ℕ → ℕ

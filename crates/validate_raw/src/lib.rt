@@ -11,7 +11,7 @@ ghost use Rattle.meaning.specs.Reader.{many, reachedOf};
 ghost use Rattle.meaning.specs.ReadValue.{padding, readFix, readG, bareR, baseR, arrayR, read, readVar, checkValue};
 ghost use Rattle.meaning.specs.Writers.{isAlignment};
 ghost use Rattle.util.specs.Entry.{Window};
-ghost use Rattle.validate_raw.specs.Walk.{spelledR, speltOf, walkedOf, walkedTo, lyingR, headR, openedOf, entryR, InnerIs, fieldsTo, BaseCode, AnyBits, Further, wholeCode, Element, composite};
+ghost use Rattle.validate_raw.specs.Walk.{spelledR, speltOf, walkedOf, walkedTo, lyingR, headR, openedOf, entryR, InnerIs, fieldsTo, BaseCode, AnyBits, wholeCode, Element, composite};
 use meaning::Checked;
 use meaning::Counted;
 use meaning::Fault;
@@ -168,23 +168,25 @@ fn signature_value(buf: &[u8], end: usize, off: usize) -> Reached
     }
 }
 
-// The basic values that are tested further: texts and Booleans.
-fn bare(order: Order, k: u8, buf: &[u8], end: usize, off: usize) -> Reached
+// A basic value without its padding, by the code of its type.
+pub fn bare(order: Order, k: u8, buf: &[u8], end: usize, off: usize) -> Reached
     requires { ⌜ Window (now buf) end off ⌝ }
-    ensures { λ r. ⌜ ((c : Base) → k ≡ code c → Further c → r ≡ reachedOf (bareR order c (take end (now (buf .entry))) off)) ⌝ }
+    ensures { λ r. ⌜ ((c : Base) → k ≡ code c → r ≡ reachedOf (bareR order c (take end (now (buf .entry))) off)) ⌝ }
 {
     match k {
         b's' => text::read_string(order, buf, end, off),
         b'o' => text::read_path(order, buf, end, off),
         b'g' => signature_value(buf, end, off),
-        _ => boolean(order, buf, end, off),
+        b'b' => boolean(order, buf, end, off),
+        _ => fixed(buf, end, off, types::size(k)),
     }
 }
 
+// A basic value by what the table says of its code.
 fn tested(order: Order, k: u8, buf: &[u8], end: usize, off: usize) -> Reached
     requires { ⌜ BaseCode k ⌝ }
     requires { ⌜ Window (now buf) end off ⌝ }
-    ensures { λ r. ⌜ ((c : Base) → k ≡ code c → Further c → r ≡ reachedOf (baseR order c (take end (now (buf .entry))) off)) ⌝ }
+    ensures { λ r. ⌜ ((c : Base) → k ≡ code c → r ≡ reachedOf (baseR order c (take end (now (buf .entry))) off)) ⌝ }
 {
     match util::padded(buf, end, off, types::align(k)) {
         Reached::At(place) => bare(order, k, buf, end, place.0),

@@ -1,6 +1,6 @@
--- The code says which basic type it is: a number has the size that the table gives, and anything else is tested further.
+-- A number has the size that the table gives for its code.
 use Rattle.meaning.specs.Types.{byte, i16, u16, i32, u32, i64, u64, dbl, fd}
-use Rattle.validate_raw.proofs.BaseLaws.{size-aligns, as-number, further, none-of}
+use Rattle.validate_raw.proofs.BaseLaws.{size-aligns, as-number}
 use borrow.Author.Needs.{needs}
 use Rattle.validate_raw.proofs.base.Statement.{statement}
 use Rattle.validate_raw.proofs.base.Tie as tie
@@ -95,7 +95,7 @@ returns-9 : tie.Need-returns-9
 returns-9 c = λ b e. as-number _ _ _ fd b _ _ _ (λ x. tt) e (c .before .before .match .keys9) (c .before .size9 .ensures) (c .number9 .ensures)
 
 returns-10 : tie.Need-returns-10
-returns-10 c = λ b e. c .tested .ensures b e (further b _ e (none-of _ (c .before .match .rest .0 .0 .0 .0 .0 .0 .0 .0 .1) (c .before .match .rest .0 .0 .0 .0 .0 .0 .0 .1) (c .before .match .rest .0 .0 .0 .0 .0 .0 .1) (c .before .match .rest .0 .0 .0 .0 .0 .1) (c .before .match .rest .0 .0 .0 .0 .1) (c .before .match .rest .0 .0 .0 .1) (c .before .match .rest .0 .0 .1) (c .before .match .rest .0 .1) (c .before .match .rest .1)))
+returns-10 c = c .tested .ensures
 
 pub base-spec : {M : Type 1} → statement M
 base-spec =

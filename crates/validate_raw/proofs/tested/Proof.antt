@@ -1,4 +1,4 @@
--- The padding by the table, and then the value: what is tested further.
+-- The padding by the table, and then the value.
 use mathlib.Core.Path.{_≡_, sym, _∙_, ap}
 use native.Mathlib.Omega.{arith}
 use lib.Seq.{length-take-le}
@@ -41,10 +41,10 @@ enum-known-refusal : tie.Need-enum-known-refusal
 enum-known-refusal c = search needs
 
 returns : tie.Need-returns
-returns c = λ b e f. base-bare _ b _ _ _ _ (base-padding b _ _ _ _ (c .before .before .before .before .before .align .ensures) e (c .before .before .before .before .padded .ensures) ∙ c .before .before .place .given .1) (c .bare .ensures b e f)
+returns c = λ b e. base-bare _ b _ _ _ _ (base-padding b _ _ _ _ (c .before .before .before .before .before .align .ensures) e (c .before .before .before .before .padded .ensures) ∙ c .before .before .place .given .1) (c .bare .ensures b e)
 
 returns-2 : tie.Need-returns-2
-returns-2 c = λ b e f. base-stop _ b _ _ _ (base-padding b _ _ _ _ (c .before .before .before .before .align .ensures) e (c .before .before .before .padded .ensures) ∙ c .before .refusal .given .1)
+returns-2 c = λ b e. base-stop _ b _ _ _ (base-padding b _ _ _ _ (c .before .before .before .before .align .ensures) e (c .before .before .before .padded .ensures) ∙ c .before .refusal .given .1)
 
 pub tested-spec : {M : Type 1} → statement M
 tested-spec =
