@@ -18,7 +18,7 @@ use Rattle.meaning.specs.declared.Reached.the-variants.{At, Refused}
 use Rattle.meaning.specs.Faults.{refusal}
 use Rattle.meaning.specs.Types.{Fix, Base, fix, Ty, base, arr, dict, struct, variant, Of, Var, size, align, whole}
 use Rattle.meaning.specs.Signature.{spell}
-use Rattle.meaning.specs.Places.{TypeAt, Typed, FieldsAt, FieldsTyped}
+use Rattle.meaning.specs.Places.{TypeAt, Typed}
 use Rattle.meaning.specs.Reader.{Res, got, fault, R, _>>=_, _>>_, many, reachedOf}
 use Rattle.meaning.proofs.ValueMeets.{ne-size}
 use Rattle.meaning.specs.ReadValue.{valid, padding, baseR, elements, arrayR, pairR, read, readVar}
@@ -26,17 +26,17 @@ use Rattle.meaning.proofs.Local.{Local, bind-got, bind-fault, many-end, both}
 use Rattle.meaning.proofs.ValueLocal.{read-local, readVar-local}
 use Rattle.meaning.proofs.Grows.{Grows, read-grows, var-grows, entry-local, entry-grows}
 use Rattle.meaning.proofs.Loop.{at-inv, refused-inv, Onward}
-use Rattle.meaning.proofs.PlaceLaws.{start, start-entry, go-array, go-dict, go-first, go-rest, is-more}
+use Rattle.meaning.proofs.PlaceLaws.{start, start-entry, go-array, go-dict}
 use Rattle.types.specs.Codes.{alignCode}
 use Rattle.util.specs.Entry.{Window}
 use Rattle.validate_raw.specs.declared.Walked.{Walked}
 use Rattle.validate_raw.specs.declared.Walked.the-variants.{Past, Refused as Stopped}
 use Rattle.validate_raw.specs.declared.Opened.{Opened}
 use Rattle.validate_raw.specs.declared.Opened.the-variants.{Inside, Shut}
-use Rattle.validate_raw.specs.Walk.{walkedOf, walkedTo, headR, openedOf, entryR, wholeCode, fieldsTo}
+use Rattle.validate_raw.specs.Walk.{walkedOf, walkedTo, headR, openedOf, entryR, wholeCode}
 use Rattle.validate_raw.proofs.ArrayLaws.{Contents, inside-inv, inside-after}
 use Rattle.validate_raw.proofs.ElementLaws.{element-align, Tested, singly, together, tested}
-use Rattle.validate_raw.proofs.WalkLaws.{walked-to, past-inv, stopped-inv, pair-got, pair-fault, fields-step, fields-stop, shut-read, elements-read, ragged-read, plain-read}
+use Rattle.validate_raw.proofs.WalkLaws.{walked-to, past-inv, stopped-inv, pair-got, pair-fault, shut-read, elements-read, ragged-read, plain-read}
 use Rattle.validate_raw.proofs.LoopLaws.{moved, turned, refused, ended}
 
 -- every reader of the cycle gets further, and rests on what lies before its end
@@ -208,25 +208,3 @@ second {s} {p} h q = go (eqb (getD s (p + 1) 0) 123) refl
     go : (a : Bool) → eqb (getD s (p + 1) 0) 123 ≡ a → p + 1 < length s
     go true e = let i = start-entry (go-dict h q (eqb→eq (getD s (p + 1) 0) 123 (subst T (sym e) tt))) in omega (arith, i .0)
     go false e = start (go-array h q (λ z. both (eqb (getD s (p + 1) 0) 123) (eq-eqb (getD s (p + 1) 0) 123 z) e))
-
--- the fields of a struct: a turn of their loop
-module _ (o : Order) (n : ℕ) (sig buf : List ℕ) (end : ℕ) (held : end ≤ length buf) (i p : ℕ) (more : getD sig i 0 ≡ 41 → ⊥) (q : Walked)
-    (answers : (t : Ty) (e : ℕ) → TypeAt t sig i e → q ≡ walkedOf e (read o (readVar o n) t (take end buf) p)) where
-  pub fields-moved : (m x : ℕ) → FieldsTyped sig i → p ≤ end → q ≡ Past m x → (i < m) × (x ≤ end) × (p ≤ x) × FieldsTyped sig m
-  fields-moved m x h l k =
-      let y = go-first h more in
-      let a = walk-moved (read o (readVar o n) (y .ty)) (value-local o n (y .ty)) (value-grows o n (y .ty)) buf end held p (y .next) m x q l (answers (y .ty) (y .next) (y .stands)) k in
-      let r = go-rest h more (λ t e s. sym (past-inv e m x (read o (readVar o n) t (take end buf) p) (sym (answers t e s) ∙ k) .2)) in
-      (r .0, a .1, omega (arith, a .0), r .1)
-
-  pub fields-turned : (m x e : ℕ) (us : List Ty) → FieldsAt us sig i e → q ≡ Past m x
-      → (vs : List Ty) × FieldsAt vs sig m e × (fieldsTo o (readVar o n) us (take end buf) p ≡ fieldsTo o (readVar o n) vs (take end buf) x)
-  fields-turned m x e us h k =
-      let y = is-more h more in
-      let a = past-inv (y .middle) m x (read o (readVar o n) (y .first) (take end buf) p) (sym (answers (y .first) (y .middle) (y .here)) ∙ k) in
-      (y .others, subst (λ (j : ℕ). FieldsAt (y .others) sig j e) (a .2) (y .rest), fields-step o (readVar o n) (take end buf) (y .first) (y .others) us p (a .0) x (y .is) (a .1))
-
-  pub fields-refused : (e : ℕ) (us : List Ty) (x : Refusal) → FieldsAt us sig i e → q ≡ Stopped x → fieldsTo o (readVar o n) us (take end buf) p ≡ Refused x
-  fields-refused e us x h k =
-      let y = is-more h more in
-      fields-stop o (readVar o n) (take end buf) (y .first) (y .others) us p x (y .is) (stopped-inv (y .middle) x (read o (readVar o n) (y .first) (take end buf) p) (sym (answers (y .first) (y .middle) (y .here)) ∙ k))

@@ -5,6 +5,7 @@ pub mod ElementLaws
 pub mod OpenLaws
 pub mod BaseLaws
 pub mod LoopLaws
+pub mod NestLaws
 pub mod CycleLaws
 pub mod EntryLaws
 pub mod Demands

@@ -15,12 +15,12 @@ use Rattle.meaning.specs.declared.Fault.the-variants.{NotEnoughBytes, VariantTo
 use Rattle.meaning.specs.declared.Reached.{Reached}
 use Rattle.meaning.specs.declared.Reached.the-variants.{At, Refused}
 use Rattle.meaning.specs.Faults.{refusal}
-use Rattle.meaning.specs.Types.{Fix, Base, fix, Form, inArray, loose, Ty, base, arr, dict, struct, variant, Tys, one, more, Of, Var, size, align, whole}
-use Rattle.meaning.specs.Places.{listOf, TypeAt, Typed}
+use Rattle.meaning.specs.Types.{Fix, Base, fix, Form, inArray, loose, Ty, base, arr, dict, variant, Of, Var, size, align, whole}
+use Rattle.meaning.specs.Places.{TypeAt, Typed}
 use Rattle.meaning.specs.Signature.{parse}
 use Rattle.meaning.specs.Number.{gap}
 use Rattle.meaning.specs.Reader.{Res, got, fault, stop, R, ret, here, fail, _>>=_, _>>_, many, reachedOf}
-use Rattle.meaning.specs.ReadValue.{valid, padding, readSig, accept, single, baseR, elements, arrayR, pairR, read, reads, readVar}
+use Rattle.meaning.specs.ReadValue.{valid, padding, readSig, accept, single, baseR, elements, arrayR, pairR, read, readVar}
 use Rattle.meaning.proofs.Local.{bind-got, bind-fault, bind-inv, ret-inv, refuse-alike, Ran, ran, stopped, bind-is, many-end, fault-inj}
 use Rattle.meaning.proofs.Meets.{At as Stands, here-bind, padding-sound, length-pad}
 use Rattle.meaning.proofs.ValueMeets.{gap-al}
@@ -30,7 +30,7 @@ use Rattle.validate_raw.specs.declared.Walked.{Walked}
 use Rattle.validate_raw.specs.declared.Walked.the-variants.{Past, Refused as Stopped}
 use Rattle.validate_raw.specs.declared.Opened.{Opened}
 use Rattle.validate_raw.specs.declared.Opened.the-variants.{Inside, Shut}
-use Rattle.validate_raw.specs.Walk.{spelledR, walkedOf, walkedTo, headR, openedOf, entryR, variantTypeR, InnerIs, after, fieldsTo}
+use Rattle.validate_raw.specs.Walk.{spelledR, walkedOf, walkedTo, headR, openedOf, entryR, variantTypeR, InnerIs}
 use Rattle.validate_raw.proofs.SpellLaws.{spelled-then, spelled-fault}
 use Rattle.validate_raw.proofs.ArrayLaws.{Head, head-inv, Contents, inside-inv, array-inside, array-shut, elements-whole, elements-ragged}
 
@@ -81,44 +81,6 @@ module _ (o : Order) {W : Type 0} (readW : R W) (b : List ℕ) where
   pub variant-read : (off : ℕ) (t : Ty) (n e : ℕ) (q : Reached) → t ≡ variant → e ≡ n → q ≡ reachedOf (readW b off) → walkedTo n q ≡ walkedOf e (read o readW t b off)
   unfolding read
   variant-read off t n e q h k l = rw (h, k, l) (walked-to n (readW b off))
-
-  -- the fields of a struct, one by one
-  pub fields-step : (t : Ty) (ts us : List Ty) (off : ℕ) (v : Of t W) (p : ℕ) → us ≡ t ∷ ts → read o readW t b off ≡ got v p → fieldsTo o readW us b off ≡ fieldsTo o readW ts b p
-  unfolding fieldsTo
-  fields-step t ts us off v p h k = rw (h, k)
-
-  pub fields-stop : (t : Ty) (ts us : List Ty) (off : ℕ) (x : Refusal) → us ≡ t ∷ ts → read o readW t b off ≡ fault x → fieldsTo o readW us b off ≡ Refused x
-  unfolding fieldsTo
-  fields-stop t ts us off x h k = rw (h, k)
-
-  pub fields-end : (us : List Ty) (off : ℕ) → us ≡ [] → fieldsTo o readW us b off ≡ At (record { 0 = off })
-  unfolding fieldsTo
-  fields-end us off h = rw h
-
-  fields-are : (fs : Tys) (off : ℕ) → reachedOf (reads o readW fs b off) ≡ fieldsTo o readW (listOf fs) b off
-  unfolding reads read fieldsTo
-  fields-are (one e) off = go (read o readW e b off) refl
-    where
-      go : (x : Res (Of e W)) → read o readW e b off ≡ x → reachedOf (read o readW e b off) ≡ after (reachedOf (read o readW e b off)) (λ p. At (record { 0 = p }))
-      go (got v p) q = rw q
-      go (fault x) q = rw q
-  fields-are (more e fs) off = go (read o readW e b off) refl (λ p. fields-are fs p)
-    where
-      go : (x : Res (Of e W)) → read o readW e b off ≡ x → ((p : ℕ) → reachedOf (reads o readW fs b p) ≡ fieldsTo o readW (listOf fs) b p)
-          → reachedOf (pairR (read o readW e) (reads o readW fs) b off) ≡ after (reachedOf (read o readW e b off)) (λ p. fieldsTo o readW (listOf fs) b p)
-      go (got v p) q ih = pair-got (read o readW e) (reads o readW fs) b off v p q ∙ ih p ∙ sym (ap (λ (y : Res (Of e W)). after (reachedOf y) (λ p. fieldsTo o readW (listOf fs) b p)) q)
-      go (fault x) q ih = ap reachedOf (pair-fault (read o readW e) (reads o readW fs) b off x q) ∙ sym (ap (λ (y : Res (Of e W)). after (reachedOf y) (λ p. fieldsTo o readW (listOf fs) b p)) q)
-
-  pub struct-stop : (off : ℕ) (t : Ty) (fs : Tys) (e : ℕ) (x : Refusal) → t ≡ struct fs → reachedOf (padding 8 b off) ≡ Refused x → Stopped x ≡ walkedOf e (read o readW t b off)
-  unfolding read
-  struct-stop off t fs e x h k = rw h (sym (ap (walkedOf e) (bind-fault (padding 8) (λ z. reads o readW fs) b off x (refused-inv (padding 8 b off) x k))))
-
-  pub struct-read : (off : ℕ) (t : Ty) (fs : Tys) (e : ℕ) (p : Place) (r : Walked) → t ≡ struct fs → reachedOf (padding 8 b off) ≡ At p
-      → r ≡ walkedTo e (fieldsTo o readW (listOf fs) b (p .0)) → r ≡ walkedOf e (read o readW t b off)
-  unfolding read
-  struct-read off t fs e p r h k l =
-      let i = at-inv (padding 8 b off) p k in
-      rw h (l ∙ ap (walkedTo e) (sym (fields-are fs (p .0))) ∙ walked-to e (reads o readW fs b (p .0)) ∙ sym (ap (walkedOf e) (bind-got (padding 8) (λ z. reads o readW fs) b off (i .0) (p .0) (i .1))))
 
   -- dicts and arrays, whatever way their type is spelled
   pub dict-read : (off : ℕ) (t : Ty) (f : Form) (k : Base) (u : Ty) (e : ℕ) (r : Walked) → t ≡ dict f k u → r ≡ walkedOf e (arrayR o 8 1 (entryR o readW k u) b off) → r ≡ walkedOf e (read o readW t b off)

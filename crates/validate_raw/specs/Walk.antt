@@ -77,15 +77,6 @@ InnerIs (Inside f s) o b end off =
     × ((t : Ty) × (variantTypeR o (take end b) off ≡ got t (s + 1)) × TypeAt t (take (s - f) (drop f b)) 0 (s - f))
 InnerIs (Shut x) o b end off = variantTypeR o (take end b) off ≡ fault x
 
--- the fields of a struct that are left, one after the other
-abbrev pub after : Reached → (ℕ → Reached) → Reached
-after (At p) k = k (p .0)
-after (Refused x) k = Refused x
-
-unfoldable pub fieldsTo : {W : Type 0} → Order → R W → List Ty → List ℕ → ℕ → Reached
-fieldsTo o readW [] b off = At (record { 0 = off })
-fieldsTo o readW (t ∷ ts) b off = after (reachedOf (read o readW t b off)) (λ p. fieldsTo o readW ts b p)
-
 -- a code of a basic type
 pub record BaseCode (k : ℕ) : Type 0 where
   pub of : Base

@@ -1,17 +1,16 @@
 // Values checked raw (validate_raw.rs): document 01, port order 4.
 ghost use mathlib.Core.Path.{_≡_};
-ghost use mathlib.Core.List.{List};
 ghost use Prim.Native.Nat.{ℕ, _+_, _-_, _≤_, _<_};
 ghost use lib.Dec.{T};
 ghost use lib.ListN.{length, take, drop, getD};
 ghost use Rattle.meaning.specs.Types.{Fix, Base, Ty, size as sizeOf};
 ghost use Rattle.meaning.specs.Signature.{code};
-ghost use Rattle.meaning.specs.Places.{TypeAt, Typed, FieldsAt, FieldsTyped, EntryAt, EntryTyped};
+ghost use Rattle.meaning.specs.Places.{TypeAt, Typed, EntryAt, EntryTyped};
 ghost use Rattle.meaning.specs.Reader.{many, reachedOf};
 ghost use Rattle.meaning.specs.ReadValue.{padding, readFix, readG, bareR, baseR, arrayR, read, readVar, checkValue};
 ghost use Rattle.meaning.specs.Writers.{isAlignment};
 ghost use Rattle.util.specs.Entry.{Window};
-ghost use Rattle.validate_raw.specs.Walk.{spelledR, speltOf, walkedOf, walkedTo, lyingR, headR, openedOf, entryR, InnerIs, fieldsTo, BaseCode, AnyBits, wholeCode, Element, composite};
+ghost use Rattle.validate_raw.specs.Walk.{spelledR, speltOf, walkedOf, lyingR, headR, openedOf, entryR, InnerIs, BaseCode, AnyBits, wholeCode, Element, composite};
 use meaning::Checked;
 use meaning::Counted;
 use meaning::Fault;
@@ -266,6 +265,8 @@ fn inner(buf: &[u8], end: usize, off: usize) -> Opened
 }
 
 // A value of the type at `at` of the signature. At most `levels` variants may stand within one another.
+// A struct has no length of its own, so one loop walks over the brackets and counts those that are open: structs within one another
+// cost no call, and an array of structs costs one call a level, not two.
 pub fn value(
     order: Order,
     sig: &[u8],
@@ -280,17 +281,67 @@ pub fn value(
     ensures { λ r. ⌜ ((t : Ty) (e : ℕ) → TypeAt t (now (sig .entry)) at e →
         r ≡ walkedOf e (read order (readVar order levels) t (take end (now (buf .entry))) off)) ⌝ }
 {
+    let mut i = at;
+    let mut o = off;
+    let mut depth: usize = 0;
+    loop {
+        let k = sig[i];
+        if k == b'(' {
+            match util::padded(buf, end, o, 8) {
+                Reached::At(place) => {
+                    i += 1;
+                    o = place.0;
+                    depth += 1;
+                }
+                Reached::Refused(refusal) => {
+                    return Walked::Refused(refusal);
+                }
+            }
+        } else if k == b')' {
+            i += 1;
+            depth -= 1;
+            if depth == 0 {
+                return Walked::Past(i, o);
+            }
+        } else {
+            match item(order, sig, i, buf, end, o, levels) {
+                Walked::Past(n, p) => {
+                    if depth == 0 {
+                        return Walked::Past(n, p);
+                    }
+                    i = n;
+                    o = p;
+                }
+                Walked::Refused(refusal) => {
+                    return Walked::Refused(refusal);
+                }
+            }
+        }
+    }
+}
+
+// A value of the type at `at`, which is no struct.
+fn item(
+    order: Order,
+    sig: &[u8],
+    at: usize,
+    buf: &[u8],
+    end: usize,
+    off: usize,
+    levels: usize,
+) -> Walked
+    requires { ⌜ Typed (now sig) at ⌝ }
+    requires { ⌜ (getD (now sig) at 0 ≡ 40 → ⊥) ⌝ }
+    requires { ⌜ Window (now buf) end off ⌝ }
+    ensures { λ r. ⌜ ((t : Ty) (e : ℕ) → TypeAt t (now (sig .entry)) at e →
+        r ≡ walkedOf e (read order (readVar order levels) t (take end (now (buf .entry))) off)) ⌝ }
+{
     let k = sig[at];
     if k == b'a' {
         if sig[at + 1] == b'{' {
             dict(order, sig, at + 2, buf, end, off, levels)
         } else {
             array(order, sig, at + 1, buf, end, off, levels)
-        }
-    } else if k == b'(' {
-        match util::padded(buf, end, off, 8) {
-            Reached::At(place) => fields(order, sig, at + 1, buf, end, place.0, levels),
-            Reached::Refused(refusal) => Walked::Refused(refusal),
         }
     } else if k == b'{' {
         dict(order, sig, at + 1, buf, end, off, levels)
@@ -478,63 +529,6 @@ fn entry(
         },
         Reached::Refused(refusal) => Walked::Refused(refusal),
     }
-}
-
-// What `value` answers. Most fields are basic values, and asking for those here spares the call of the whole walk.
-fn field(
-    order: Order,
-    sig: &[u8],
-    at: usize,
-    buf: &[u8],
-    end: usize,
-    off: usize,
-    levels: usize,
-) -> Walked
-    requires { ⌜ Typed (now sig) at ⌝ }
-    requires { ⌜ Window (now buf) end off ⌝ }
-    ensures { λ r. ⌜ ((t : Ty) (e : ℕ) → TypeAt t (now (sig .entry)) at e →
-        r ≡ walkedOf e (read order (readVar order levels) t (take end (now (buf .entry))) off)) ⌝ }
-{
-    let k = sig[at];
-    if is_composite(k) {
-        value(order, sig, at, buf, end, off, levels)
-    } else {
-        match base(order, k, buf, end, off) {
-            Reached::At(place) => Walked::Past(at + 1, place.0),
-            Reached::Refused(refusal) => Walked::Refused(refusal),
-        }
-    }
-}
-
-// The fields of a struct, whose types are at `at`, up to its bracket.
-fn fields(
-    order: Order,
-    sig: &[u8],
-    at: usize,
-    buf: &[u8],
-    end: usize,
-    off: usize,
-    levels: usize,
-) -> Walked
-    requires { ⌜ FieldsTyped (now sig) at ⌝ }
-    requires { ⌜ Window (now buf) end off ⌝ }
-    ensures { λ r. ⌜ ((ts : List Ty) (e : ℕ) → FieldsAt ts (now (sig .entry)) at e →
-        r ≡ walkedTo e (fieldsTo order (readVar order levels) ts (take end (now (buf .entry))) off)) ⌝ }
-{
-    let mut i = at;
-    let mut o = off;
-    while sig[i] != b')' {
-        match field(order, sig, i, buf, end, o, levels) {
-            Walked::Past(n, p) => {
-                i = n;
-                o = p;
-            }
-            Walked::Refused(refusal) => {
-                return Walked::Refused(refusal);
-            }
-        }
-    }
-    Walked::Past(i + 1, o)
 }
 
 // A variant: its signature, and then a value of that type.

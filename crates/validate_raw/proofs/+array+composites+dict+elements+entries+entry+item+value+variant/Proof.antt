@@ -11,53 +11,51 @@ use lib.Dec.{T}
 use native.Mathlib.Nat.{pos-of-ne-zero}
 use Rattle.meaning.specs.declared.Order.the-variants.{Little}
 use Rattle.meaning.specs.Types.{Base, Ty, Form, inArray, loose}
-use Rattle.meaning.specs.Places.{TypeAt, FieldsAt, FieldsTyped, EntryAt}
+use Rattle.meaning.specs.Places.{TypeAt, EntryAt}
 use Rattle.meaning.specs.Reader.{reachedOf}
 use Rattle.meaning.specs.ReadValue.{baseR, read, readVar}
 use Rattle.meaning.specs.Writers.{isAlignment}
-use Rattle.meaning.proofs.PlaceLaws.{start, start-entry, start-fields, lies, go-array, go-dict, go-loose, go-struct, go-value, go-first, is-base, is-variant, is-struct, is-array, is-dict, is-loose, is-none, in-entry}
+use Rattle.meaning.proofs.PlaceLaws.{start, start-entry, go-array, go-dict, go-loose, go-value, is-base, is-variant, is-array, is-dict, is-loose, in-entry}
 use Rattle.meaning.proofs.Loop.{Onward}
 use Rattle.types.specs.Codes.{alignCode}
 use Rattle.util.proofs.Windows.{reached-within}
 use Rattle.meaning.proofs.ValueLocal.{baseR-local}
-use Rattle.validate_raw.specs.Walk.{entryR, fieldsTo, walkedTo, InnerIs}
+use Rattle.validate_raw.specs.Walk.{walkedOf, entryR, InnerIs}
 use Rattle.validate_raw.proofs.OpenLaws.{padded-within}
 use Rattle.validate_raw.proofs.ElementLaws.{element-alignment, basic}
 use Rattle.validate_raw.proofs.LoopLaws.{began}
-use Rattle.validate_raw.proofs.WalkLaws.{base-read, variant-read, struct-stop, struct-read, dict-read, array-read, fields-end, variant-deep, variant-shut, variant-holds, inner-at, inner-shut, inner-inside, inner-typed, elements-basic, past-next, walked-place, walked-refusal}
-use Rattle.validate_raw.proofs.CycleLaws.{value-local, value-grows, entryR-local, entryR-grows, walk-moved, walk-turned, walk-refused, walk-ended, walk-none, opened-within, dict-shut, dict-entries, array-shut, array-elements, array-plain, array-ragged, entry-stop, entry-key, entry-past, entry-value, second, fields-moved, fields-turned, fields-refused}
+use Rattle.validate_raw.proofs.WalkLaws.{base-read, variant-read, dict-read, array-read, variant-deep, variant-shut, variant-holds, inner-at, inner-shut, inner-inside, inner-typed, elements-basic, past-next, walked-place, walked-refusal}
+use Rattle.validate_raw.proofs.CycleLaws.{value-local, value-grows, entryR-local, entryR-grows, walk-moved, walk-turned, walk-refused, walk-ended, walk-none, opened-within, dict-shut, dict-entries, array-shut, array-elements, array-plain, array-ragged, entry-stop, entry-key, entry-past, entry-value, second}
+use Rattle.validate_raw.proofs.NestLaws.{Left, whole, inside, rest-done, left-start, left-typed, left-open, left-shut, left-close, left-past, left-stop, value-moved}
 use borrow.Fn.Kinds.{In}
 use borrow.Fn.PlainCycle.{Measures, is, falls, and}
 use Rattle.validate_raw.proofs.array.Reads as array
 use Rattle.validate_raw.proofs.array.Kinds as array-kinds
-use Rattle.validate_raw.proofs.+array+composites+dict+elements+entries+entry+field+fields+value+variant.Lts-array as array-lts
+use Rattle.validate_raw.proofs.+array+composites+dict+elements+entries+entry+item+value+variant.Lts-array as array-lts
 use Rattle.validate_raw.proofs.composites.Reads as composites
 use Rattle.validate_raw.proofs.composites.Kinds as composites-kinds
-use Rattle.validate_raw.proofs.+array+composites+dict+elements+entries+entry+field+fields+value+variant.Lts-composites as composites-lts
+use Rattle.validate_raw.proofs.+array+composites+dict+elements+entries+entry+item+value+variant.Lts-composites as composites-lts
 use Rattle.validate_raw.proofs.dict.Reads as dict
 use Rattle.validate_raw.proofs.dict.Kinds as dict-kinds
-use Rattle.validate_raw.proofs.+array+composites+dict+elements+entries+entry+field+fields+value+variant.Lts-dict as dict-lts
+use Rattle.validate_raw.proofs.+array+composites+dict+elements+entries+entry+item+value+variant.Lts-dict as dict-lts
 use Rattle.validate_raw.proofs.elements.Reads as elements
 use Rattle.validate_raw.proofs.elements.Kinds as elements-kinds
-use Rattle.validate_raw.proofs.+array+composites+dict+elements+entries+entry+field+fields+value+variant.Lts-elements as elements-lts
+use Rattle.validate_raw.proofs.+array+composites+dict+elements+entries+entry+item+value+variant.Lts-elements as elements-lts
 use Rattle.validate_raw.proofs.entries.Reads as entries
 use Rattle.validate_raw.proofs.entries.Kinds as entries-kinds
-use Rattle.validate_raw.proofs.+array+composites+dict+elements+entries+entry+field+fields+value+variant.Lts-entries as entries-lts
+use Rattle.validate_raw.proofs.+array+composites+dict+elements+entries+entry+item+value+variant.Lts-entries as entries-lts
 use Rattle.validate_raw.proofs.entry.Reads as entry
 use Rattle.validate_raw.proofs.entry.Kinds as entry-kinds
-use Rattle.validate_raw.proofs.+array+composites+dict+elements+entries+entry+field+fields+value+variant.Lts-entry as entry-lts
-use Rattle.validate_raw.proofs.field.Reads as field
-use Rattle.validate_raw.proofs.field.Kinds as field-kinds
-use Rattle.validate_raw.proofs.+array+composites+dict+elements+entries+entry+field+fields+value+variant.Lts-field as field-lts
-use Rattle.validate_raw.proofs.fields.Reads as fields
-use Rattle.validate_raw.proofs.fields.Kinds as fields-kinds
-use Rattle.validate_raw.proofs.+array+composites+dict+elements+entries+entry+field+fields+value+variant.Lts-fields as fields-lts
+use Rattle.validate_raw.proofs.+array+composites+dict+elements+entries+entry+item+value+variant.Lts-entry as entry-lts
+use Rattle.validate_raw.proofs.item.Reads as item
+use Rattle.validate_raw.proofs.item.Kinds as item-kinds
+use Rattle.validate_raw.proofs.+array+composites+dict+elements+entries+entry+item+value+variant.Lts-item as item-lts
 use Rattle.validate_raw.proofs.value.Reads as value
 use Rattle.validate_raw.proofs.value.Kinds as value-kinds
-use Rattle.validate_raw.proofs.+array+composites+dict+elements+entries+entry+field+fields+value+variant.Lts-value as value-lts
+use Rattle.validate_raw.proofs.+array+composites+dict+elements+entries+entry+item+value+variant.Lts-value as value-lts
 use Rattle.validate_raw.proofs.variant.Reads as variant
 use Rattle.validate_raw.proofs.variant.Kinds as variant-kinds
-use Rattle.validate_raw.proofs.+array+composites+dict+elements+entries+entry+field+fields+value+variant.Lts-variant as variant-lts
+use Rattle.validate_raw.proofs.+array+composites+dict+elements+entries+entry+item+value+variant.Lts-variant as variant-lts
 use Rattle.meaning.proofs.refuse.Reads as refuse-reads
 use Rattle.signature.proofs.skip.Reads as skip-reads
 use Rattle.types.proofs.align.Reads as align-reads
@@ -68,10 +66,10 @@ use Rattle.validate_raw.proofs.inner.Reads as inner-reads
 use Rattle.validate_raw.proofs.is_composite.Reads as is-composite-reads
 use Rattle.validate_raw.proofs.opening.Reads as opening-reads
 use Rattle.validate_raw.proofs.whole.Reads as whole-reads
-use Rattle.validate_raw.proofs.+array+composites+dict+elements+entries+entry+field+fields+value+variant.{
+use Rattle.validate_raw.proofs.+array+composites+dict+elements+entries+entry+item+value+variant.{
   statement,
 }
-use Rattle.validate_raw.proofs.+array+composites+dict+elements+entries+entry+field+fields+value+variant.Tie.{
+use Rattle.validate_raw.proofs.+array+composites+dict+elements+entries+entry+item+value+variant.Tie.{
   close,
 }
 
@@ -79,7 +77,7 @@ abbrev measure : ℕ → ℕ → ℕ → ℕ → ℕ
 measure levels depth bytes rank = 4 * (levels + depth + bytes) + rank
 
 -- a variant's value, of a type whose signature of l bytes stands before it, is below the variant
-variant-falls : (levels end o f s l t : ℕ) → (levels ≡ 0 → ⊥) → o < f → f + l ≤ s → s < end → measure levels 0 (end - o) 0 ≡ t → measure (levels - 1) (l - 0) (end - (s + 1)) 0 < t
+variant-falls : (levels end o f s l t : ℕ) → (levels ≡ 0 → ⊥) → o < f → f + l ≤ s → s < end → measure levels 0 (end - o) 0 ≡ t → measure (levels - 1) (l - 0) (end - (s + 1)) 1 < t
 variant-falls levels end o f s l t h i j k e = let p : 0 < levels = pos-of-ne-zero h in omega arith
 
 part-fits : (b : List ℕ) (f s : ℕ) → f ≤ s → f + length (take (s - f) (drop f b)) ≤ s
@@ -89,13 +87,13 @@ abbrev μ-array : Measures 2 array-kinds.ps ℕ
 μ-array κs a = measure (a .1 .1 .1 .1 .1 .1 .0) (length (a .1 .0 .now) - a .1 .1 .0) (a .1 .1 .1 .1 .0 - a .1 .1 .1 .1 .1 .0) 0
 
 abbrev μ-composites : Measures 2 composites-kinds.ps ℕ
-μ-composites κs a = measure (a .1 .1 .1 .1 .1 .1 .0) (length (a .1 .0 .now) - a .1 .1 .0) (a .1 .1 .1 .1 .0 - a .1 .1 .1 .1 .1 .0) 1
+μ-composites κs a = measure (a .1 .1 .1 .1 .1 .1 .0) (length (a .1 .0 .now) - a .1 .1 .0) (a .1 .1 .1 .1 .0 - a .1 .1 .1 .1 .1 .0) 2
 
 abbrev μ-dict : Measures 2 dict-kinds.ps ℕ
 μ-dict κs a = measure (a .1 .1 .1 .1 .1 .1 .0) (length (a .1 .0 .now) - a .1 .1 .0) (a .1 .1 .1 .1 .0 - a .1 .1 .1 .1 .1 .0) 0
 
 abbrev μ-elements : Measures 2 elements-kinds.ps ℕ
-μ-elements κs a = measure (a .1 .1 .1 .1 .1 .1 .0) (length (a .1 .0 .now) - a .1 .1 .0) (a .1 .1 .1 .1 .0 - a .1 .1 .1 .1 .1 .0) 2
+μ-elements κs a = measure (a .1 .1 .1 .1 .1 .1 .0) (length (a .1 .0 .now) - a .1 .1 .0) (a .1 .1 .1 .1 .0 - a .1 .1 .1 .1 .1 .0) 3
 
 abbrev μ-entries : Measures 2 entries-kinds.ps ℕ
 μ-entries κs a = measure (a .1 .1 .1 .1 .1 .1 .0) (length (a .1 .0 .now) - a .1 .1 .0) (a .1 .1 .1 .1 .0 - a .1 .1 .1 .1 .1 .0) 2
@@ -103,14 +101,11 @@ abbrev μ-entries : Measures 2 entries-kinds.ps ℕ
 abbrev μ-entry : Measures 2 entry-kinds.ps ℕ
 μ-entry κs a = measure (a .1 .1 .1 .1 .1 .1 .0) (length (a .1 .0 .now) - a .1 .1 .0) (a .1 .1 .1 .1 .0 - a .1 .1 .1 .1 .1 .0) 1
 
-abbrev μ-field : Measures 2 field-kinds.ps ℕ
-μ-field κs a = measure (a .1 .1 .1 .1 .1 .1 .0) (length (a .1 .0 .now) - a .1 .1 .0) (a .1 .1 .1 .1 .0 - a .1 .1 .1 .1 .1 .0) 1
-
-abbrev μ-fields : Measures 2 fields-kinds.ps ℕ
-μ-fields κs a = measure (a .1 .1 .1 .1 .1 .1 .0) (length (a .1 .0 .now) - a .1 .1 .0) (a .1 .1 .1 .1 .0 - a .1 .1 .1 .1 .1 .0) 2
+abbrev μ-item : Measures 2 item-kinds.ps ℕ
+μ-item κs a = measure (a .1 .1 .1 .1 .1 .1 .0) (length (a .1 .0 .now) - a .1 .1 .0) (a .1 .1 .1 .1 .0 - a .1 .1 .1 .1 .1 .0) 0
 
 abbrev μ-value : Measures 2 value-kinds.ps ℕ
-μ-value κs a = measure (a .1 .1 .1 .1 .1 .1 .0) (length (a .1 .0 .now) - a .1 .1 .0) (a .1 .1 .1 .1 .0 - a .1 .1 .1 .1 .1 .0) 0
+μ-value κs a = measure (a .1 .1 .1 .1 .1 .1 .0) (length (a .1 .0 .now) - a .1 .1 .0) (a .1 .1 .1 .1 .0 - a .1 .1 .1 .1 .1 .0) 1
 
 abbrev μ-variant : Measures 1 variant-kinds.ps ℕ
 μ-variant κs a = measure (a .1 .1 .1 .1 .0) 0 (a .1 .1 .0 - a .1 .1 .1 .0) 0
@@ -154,17 +149,11 @@ entry-at t = and 2 entry-kinds.ps (is 2 entry-kinds.ps μ-entry t) entry.Pre
 abbrev entry-below : ℕ → In 2 entry-kinds.ps
 entry-below t = and 2 entry-kinds.ps (falls 2 entry-kinds.ps _<_ μ-entry t) entry.Pre
 
-abbrev field-at : ℕ → In 2 field-kinds.ps
-field-at t = and 2 field-kinds.ps (is 2 field-kinds.ps μ-field t) field.Pre
+abbrev item-at : ℕ → In 2 item-kinds.ps
+item-at t = and 2 item-kinds.ps (is 2 item-kinds.ps μ-item t) item.Pre
 
-abbrev field-below : ℕ → In 2 field-kinds.ps
-field-below t = and 2 field-kinds.ps (falls 2 field-kinds.ps _<_ μ-field t) field.Pre
-
-abbrev fields-at : ℕ → In 2 fields-kinds.ps
-fields-at t = and 2 fields-kinds.ps (is 2 fields-kinds.ps μ-fields t) fields.Pre
-
-abbrev fields-below : ℕ → In 2 fields-kinds.ps
-fields-below t = and 2 fields-kinds.ps (falls 2 fields-kinds.ps _<_ μ-fields t) fields.Pre
+abbrev item-below : ℕ → In 2 item-kinds.ps
+item-below t = and 2 item-kinds.ps (falls 2 item-kinds.ps _<_ μ-item t) item.Pre
 
 abbrev value-at : ℕ → In 2 value-kinds.ps
 value-at t = and 2 value-kinds.ps (is 2 value-kinds.ps μ-value t) value.Pre
@@ -196,14 +185,11 @@ entries-claims t = (skip-reads.Asked, skip-reads.Learnt, entry-below t, entry.Po
 abbrev entry-claims : ℕ → entry-lts.Claims
 entry-claims t = (padded-reads.Asked, padded-reads.Learnt, base-reads.Asked, base-reads.Learnt, value-below t, value.Post)
 
-abbrev field-claims : ℕ → field-lts.Claims
-field-claims t = (is-composite-reads.Asked, is-composite-reads.Learnt, value-below t, value.Post, base-reads.Asked, base-reads.Learnt)
-
-abbrev fields-claims : ℕ → fields-lts.Claims
-fields-claims t = (field-below t, field.Post)
+abbrev item-claims : ℕ → item-lts.Claims
+item-claims t = (dict-below t, dict.Post, array-below t, array.Post, variant-below t, variant.Post, base-reads.Asked, base-reads.Learnt)
 
 abbrev value-claims : ℕ → value-lts.Claims
-value-claims t = (dict-below t, dict.Post, array-below t, array.Post, padded-reads.Asked, padded-reads.Learnt, fields-below t, fields.Post, variant-below t, variant.Post, base-reads.Asked, base-reads.Learnt)
+value-claims t = (padded-reads.Asked, padded-reads.Learnt, item-below t, item.Post)
 
 abbrev variant-claims : ℕ → variant-lts.Claims
 variant-claims t = (refuse-reads.Asked, refuse-reads.Learnt, inner-reads.Asked, inner-reads.Learnt, value-below t, value.Post)
@@ -441,165 +427,151 @@ entry-returns-3 t c = λ k u e h. (let y = in-entry h in entry-key (c .before .b
 entry-returns-4 : (t : ℕ) → entry-lts.Need-returns-4 (entry-claims t) (entry-at t) entry.Post
 entry-returns-4 t c = λ k u e h. entry-stop (c .before .before .before .before .before .before .args .order) (c .before .before .before .before .before .before .args .levels) k u (take (c .before .before .before .before .before .before .args .end) (c .before .before .before .before .before .before .args .buf .now)) (c .before .before .before .before .before .before .args .off) e _ (sym (c .before .before .before .padded .ensures) ∙ c .before .refusal3 .given .1)
 
-field-shared-slice-read-k : (t : ℕ) → field-lts.Need-shared-slice-read-k (field-claims t) (field-at t) field.Post
-field-shared-slice-read-k t c = start (c .before .before .before .pre .1 .0)
+item-shared-slice-read-k : (t : ℕ) → item-lts.Need-shared-slice-read-k (item-claims t) (item-at t) item.Post
+item-shared-slice-read-k t c = start (c .before .before .before .pre .1 .0)
 
-field-is-composite-requires : (t : ℕ) → field-lts.Need-is-composite-requires (field-claims t) (field-at t) field.Post
-field-is-composite-requires t c κs = search needs
+item-add-if2 : (t : ℕ) → item-lts.Need-add-if2 (item-claims t) (item-at t) item.Post
+item-add-if2 t c = omega (arith, start (c .before .before .before .before .pre .1 .0))
 
-field-value-requires : (t : ℕ) → field-lts.Need-value-requires (field-claims t) (field-at t) field.Post
-field-value-requires t c κs = (omega (arith, c .before .before .before .before .before .pre .0), (c .before .before .before .before .before .pre .1 .0, c .before .before .before .before .before .pre .1 .1))
+item-shared-slice-read-if2 : (t : ℕ) → item-lts.Need-shared-slice-read-if2 (item-claims t) (item-at t) item.Post
+item-shared-slice-read-if2 t c = second (c .before .before .before .before .before .pre .1 .0) (c .before .if1 .taken)
 
-field-base-requires : (t : ℕ) → field-lts.Need-base-requires (field-claims t) (field-at t) field.Post
-field-base-requires t c κs = (let k = basic (sym (c .before .is-composite .ensures) ∙ c .if1 .left) in let i = is-base (c .before .before .before .before .before .pre .1 .0 .stands) (k .0) (k .1) (k .2) (k .3) in (record { of = i .of; is = i .byte }, c .before .before .before .before .before .pre .1 .1))
+item-add-dict : (t : ℕ) → item-lts.Need-add-dict (item-claims t) (item-at t) item.Post
+item-add-dict t c = omega (arith, second (c .before .before .before .before .before .before .pre .1 .0) (c .before .before .if1 .taken))
 
-field-enum-known-place : (t : ℕ) → field-lts.Need-enum-known-place (field-claims t) (field-at t) field.Post
-field-enum-known-place t c = search needs
+item-dict-requires : (t : ℕ) → item-lts.Need-dict-requires (item-claims t) (item-at t) item.Post
+item-dict-requires t c κs = (omega (arith, second (c .before .before .before .before .before .before .pre .1 .0) (c .before .before .if1 .taken), c .before .before .before .before .before .before .pre .0), (go-dict (c .before .before .before .before .before .before .pre .1 .0) (c .before .before .if1 .taken) (c .if2 .taken), c .before .before .before .before .before .before .pre .1 .1 .1))
 
-field-add-t17 : (t : ℕ) → field-lts.Need-add-t17 (field-claims t) (field-at t) field.Post
-field-add-t17 t c = omega (arith, start (c .before .before .before .before .before .before .before .before .before .pre .1 .0))
+item-add-array : (t : ℕ) → item-lts.Need-add-array (item-claims t) (item-at t) item.Post
+item-add-array t c = omega (arith, second (c .before .before .before .before .before .before .pre .1 .0) (c .before .before .if1 .taken))
 
-field-enum-known-refusal : (t : ℕ) → field-lts.Need-enum-known-refusal (field-claims t) (field-at t) field.Post
-field-enum-known-refusal t c = search needs
+item-array-requires : (t : ℕ) → item-lts.Need-array-requires (item-claims t) (item-at t) item.Post
+item-array-requires t c κs = (omega (arith, second (c .before .before .before .before .before .before .pre .1 .0) (c .before .before .if1 .taken), c .before .before .before .before .before .before .pre .0), (record { typed = go-array (c .before .before .before .before .before .before .pre .1 .0) (c .before .before .if1 .taken) (c .if2 .left); other = c .if2 .left }, c .before .before .before .before .before .before .pre .1 .1 .1))
 
-field-returns : (t : ℕ) → field-lts.Need-returns (field-claims t) (field-at t) field.Post
-field-returns t c = c .value .ensures
+item-add-dict-2 : (t : ℕ) → item-lts.Need-add-dict-2 (item-claims t) (item-at t) item.Post
+item-add-dict-2 t c = omega (arith, start (c .before .before .before .before .before .pre .1 .0))
 
-field-returns-2 : (t : ℕ) → field-lts.Need-returns-2 (field-claims t) (field-at t) field.Post
-field-returns-2 t c = λ u e h. (let k = basic (sym (c .before .before .before .before .before .is-composite .ensures) ∙ c .before .before .before .before .if1 .left) in let i = is-base h (k .0) (k .1) (k .2) (k .3) in base-read (c .before .before .before .before .before .before .before .before .before .args .order) (readVar (c .before .before .before .before .before .before .before .before .before .args .order) (c .before .before .before .before .before .before .before .before .before .args .levels)) (take (c .before .before .before .before .before .before .before .before .before .args .end) (c .before .before .before .before .before .before .before .before .before .args .buf .now)) (c .before .before .before .before .before .before .before .before .before .args .off) u (i .of) _ e _ (i .is) (i .ends) (sym (c .before .place .given .1) ∙ c .before .before .before .base .ensures (i .of) (i .byte)))
+item-dict-requires-2 : (t : ℕ) → item-lts.Need-dict-requires-2 (item-claims t) (item-at t) item.Post
+item-dict-requires-2 t c κs = (omega (arith, start (c .before .before .before .before .before .pre .1 .0), c .before .before .before .before .before .pre .0), (go-loose (c .before .before .before .before .before .pre .1 .0) (c .if3 .taken), c .before .before .before .before .before .pre .1 .1 .1))
 
-field-returns-3 : (t : ℕ) → field-lts.Need-returns-3 (field-claims t) (field-at t) field.Post
-field-returns-3 t c = λ u e h. (let k = basic (sym (c .before .before .before .before .before .is-composite .ensures) ∙ c .before .before .before .before .if1 .left) in let i = is-base h (k .0) (k .1) (k .2) (k .3) in base-read (c .before .before .before .before .before .before .before .before .before .args .order) (readVar (c .before .before .before .before .before .before .before .before .before .args .order) (c .before .before .before .before .before .before .before .before .before .args .levels)) (take (c .before .before .before .before .before .before .before .before .before .args .end) (c .before .before .before .before .before .before .before .before .before .args .buf .now)) (c .before .before .before .before .before .before .before .before .before .args .off) u (i .of) e e _ (i .is) refl (sym (c .before .refusal .given .1) ∙ c .before .before .before .base .ensures (i .of) (i .byte)))
+item-variant-requires : (t : ℕ) → item-lts.Need-variant-requires (item-claims t) (item-at t) item.Post
+item-variant-requires t c κs = (omega (arith, start (c .before .before .before .before .before .before .pre .1 .0), c .before .before .before .before .before .before .pre .0), c .before .before .before .before .before .before .pre .1 .1 .1)
 
-abbrev fields-Inv-loop : fields-lts.InvT-loop
-fields-Inv-loop order sig at buf end off levels i₀ o₀ i o = (at ≤ i) × (off ≤ o) × (o ≤ end) × FieldsTyped sig i × ((ts : List Ty) (e : ℕ) → FieldsAt ts sig at e → (us : List Ty) × FieldsAt us sig i e × (fieldsTo order (readVar order levels) ts (take end buf) off ≡ fieldsTo order (readVar order levels) us (take end buf) o))
+item-enum-known-place : (t : ℕ) → item-lts.Need-enum-known-place (item-claims t) (item-at t) item.Post
+item-enum-known-place t c = search needs
 
-abbrev fields-μ-loop : fields-lts.MeasureT-loop
-fields-μ-loop order sig at buf end off levels i₀ o₀ i o = length sig - i
+item-add-t31 : (t : ℕ) → item-lts.Need-add-t31 (item-claims t) (item-at t) item.Post
+item-add-t31 t c = omega (arith, start (c .before .before .before .before .before .before .before .before .before .before .pre .1 .0))
 
-fields-loop-holds : (t : ℕ) → fields-lts.Need-loop-holds (fields-claims t) (fields-at t) fields.Post fields-Inv-loop fields-μ-loop
-fields-loop-holds t c = (omega arith, omega arith, c .before .before .pre .1 .1 .inside, c .before .before .pre .1 .0, λ ts e h. (ts, h, refl))
+item-enum-known-refusal : (t : ℕ) → item-lts.Need-enum-known-refusal (item-claims t) (item-at t) item.Post
+item-enum-known-refusal t c = search needs
 
-fields-shared-slice-read-if1 : (t : ℕ) → fields-lts.Need-shared-slice-read-if1 (fields-claims t) (fields-at t) fields.Post fields-Inv-loop fields-μ-loop
-fields-shared-slice-read-if1 t c = start-fields (c .before .loop .inv .3)
+item-base-requires : (t : ℕ) → item-lts.Need-base-requires (item-claims t) (item-at t) item.Post
+item-base-requires t c κs = (let i = is-base (c .before .before .before .before .before .before .pre .1 .0 .stands) (c .before .before .if1 .left) (c .before .before .before .before .before .before .pre .1 .1 .0) (c .before .if3 .left) (c .if4 .left) in (record { of = i .of; is = i .byte }, c .before .before .before .before .before .before .pre .1 .1 .1))
 
-fields-field-requires : (t : ℕ) → fields-lts.Need-field-requires (fields-claims t) (fields-at t) fields.Post fields-Inv-loop fields-μ-loop
-fields-field-requires t c κs = (omega (arith, c .before .before .before .before .before .pre .0, c .before .before .loop .inv .0, c .before .before .loop .inv .1, c .before .before .loop .inv .2), (go-first (c .before .before .loop .inv .3) (c .if1 .taken), record { inside = c .before .before .loop .inv .2; held = c .before .before .before .before .before .pre .1 .1 .held }))
+item-enum-known-place-2 : (t : ℕ) → item-lts.Need-enum-known-place-2 (item-claims t) (item-at t) item.Post
+item-enum-known-place-2 t c = search needs
 
-fields-enum-known-n : (t : ℕ) → fields-lts.Need-enum-known-n (fields-claims t) (fields-at t) fields.Post fields-Inv-loop fields-μ-loop
-fields-enum-known-n t c = search needs
+item-add-t34 : (t : ℕ) → item-lts.Need-add-t34 (item-claims t) (item-at t) item.Post
+item-add-t34 t c = omega (arith, start (c .before .before .before .before .before .before .before .before .before .before .pre .1 .0))
 
-fields-loop-less : (t : ℕ) → fields-lts.Need-loop-less (fields-claims t) (fields-at t) fields.Post fields-Inv-loop fields-μ-loop
-fields-loop-less t c = let m = fields-moved (c .before .before .before .before .before .before .before .before .before .args .order) (c .before .before .before .before .before .before .before .before .before .args .levels) (c .before .before .before .before .before .before .before .before .before .args .sig .now) (c .before .before .before .before .before .before .before .before .before .args .buf .now) (c .before .before .before .before .before .before .before .before .before .args .end) (c .before .before .before .before .before .before .before .before .before .pre .1 .1 .held) _ _ (c .before .before .before .before .if1 .taken) _ (c .before .before .before .field .ensures) _ _ (c .before .before .before .before .before .before .loop .inv .3) (c .before .before .before .before .before .before .loop .inv .2) (c .before .n .given .1) in omega (arith, m .0, start-fields (m .3))
+item-enum-known-refusal-2 : (t : ℕ) → item-lts.Need-enum-known-refusal-2 (item-claims t) (item-at t) item.Post
+item-enum-known-refusal-2 t c = search needs
 
-fields-loop-again : (t : ℕ) → fields-lts.Need-loop-again (fields-claims t) (fields-at t) fields.Post fields-Inv-loop fields-μ-loop
-fields-loop-again t c = let m = fields-moved (c .before .before .before .before .before .before .before .before .before .args .order) (c .before .before .before .before .before .before .before .before .before .args .levels) (c .before .before .before .before .before .before .before .before .before .args .sig .now) (c .before .before .before .before .before .before .before .before .before .args .buf .now) (c .before .before .before .before .before .before .before .before .before .args .end) (c .before .before .before .before .before .before .before .before .before .pre .1 .1 .held) _ _ (c .before .before .before .before .if1 .taken) _ (c .before .before .before .field .ensures) _ _ (c .before .before .before .before .before .before .loop .inv .3) (c .before .before .before .before .before .before .loop .inv .2) (c .before .n .given .1) in
-    (omega (arith, m .0, c .before .before .before .before .before .before .loop .inv .0), omega (arith, m .2, c .before .before .before .before .before .before .loop .inv .1), m .1, m .3, λ ts e h. (let i = c .before .before .before .before .before .before .loop .inv .4 ts e h in let j = fields-turned (c .before .before .before .before .before .before .before .before .before .args .order) (c .before .before .before .before .before .before .before .before .before .args .levels) (c .before .before .before .before .before .before .before .before .before .args .sig .now) (c .before .before .before .before .before .before .before .before .before .args .buf .now) (c .before .before .before .before .before .before .before .before .before .args .end) (c .before .before .before .before .before .before .before .before .before .pre .1 .1 .held) _ _ (c .before .before .before .before .if1 .taken) _ (c .before .before .before .field .ensures) _ _ e (i .0) (i .1) (c .before .n .given .1) in (j .0, j .1, i .2 ∙ j .2)))
+item-returns : (t : ℕ) → item-lts.Need-returns (item-claims t) (item-at t) item.Post
+item-returns t c = λ u e h. (let i = is-dict h (c .before .before .before .if1 .taken) (c .before .if2 .taken) in dict-read (c .before .before .before .before .before .before .before .args .order) (readVar (c .before .before .before .before .before .before .before .args .order) (c .before .before .before .before .before .before .before .args .levels)) (take (c .before .before .before .before .before .before .before .args .end) (c .before .before .before .before .before .before .before .args .buf .now)) (c .before .before .before .before .before .before .before .args .off) u inArray (i .key) (i .value) e _ (i .is) (c .dict .ensures (i .key) (i .value) e (i .stands)))
 
-fields-enum-known-refusal : (t : ℕ) → fields-lts.Need-enum-known-refusal (fields-claims t) (fields-at t) fields.Post fields-Inv-loop fields-μ-loop
-fields-enum-known-refusal t c = search needs
+item-returns-2 : (t : ℕ) → item-lts.Need-returns-2 (item-claims t) (item-at t) item.Post
+item-returns-2 t c = λ u e h. (let i = is-array h (c .before .before .before .if1 .taken) (c .before .if2 .left) in array-read (c .before .before .before .before .before .before .before .args .order) (readVar (c .before .before .before .before .before .before .before .args .order) (c .before .before .before .before .before .before .before .args .levels)) (take (c .before .before .before .before .before .before .before .args .end) (c .before .before .before .before .before .before .before .args .buf .now)) (c .before .before .before .before .before .before .before .args .off) u (i .element) e _ (i .is) (c .array .ensures (i .element) e (i .stands)))
 
-fields-returns : (t : ℕ) → fields-lts.Need-returns (fields-claims t) (fields-at t) fields.Post fields-Inv-loop fields-μ-loop
-fields-returns t c = λ ts e h. (let i = c .before .before .before .before .before .before .loop .inv .4 ts e h in ap (walkedTo e) (sym (i .2 ∙ fields-refused (c .before .before .before .before .before .before .before .before .before .args .order) (c .before .before .before .before .before .before .before .before .before .args .levels) (c .before .before .before .before .before .before .before .before .before .args .sig .now) (c .before .before .before .before .before .before .before .before .before .args .buf .now) (c .before .before .before .before .before .before .before .before .before .args .end) (c .before .before .before .before .before .before .before .before .before .pre .1 .1 .held) _ _ (c .before .before .before .before .if1 .taken) _ (c .before .before .before .field .ensures) e (i .0) _ (i .1) (c .before .refusal .given .1))))
+item-returns-3 : (t : ℕ) → item-lts.Need-returns-3 (item-claims t) (item-at t) item.Post
+item-returns-3 t c = λ u e h. (let i = is-loose h (c .before .if3 .taken) in dict-read (c .before .before .before .before .before .before .args .order) (readVar (c .before .before .before .before .before .before .args .order) (c .before .before .before .before .before .before .args .levels)) (take (c .before .before .before .before .before .before .args .end) (c .before .before .before .before .before .before .args .buf .now)) (c .before .before .before .before .before .before .args .off) u loose (i .key) (i .value) e _ (i .is) (c .dict2 .ensures (i .key) (i .value) e (i .stands)))
 
-fields-add-t17 : (t : ℕ) → fields-lts.Need-add-t17 (fields-claims t) (fields-at t) fields.Post fields-Inv-loop fields-μ-loop
-fields-add-t17 t c = omega (arith, start-fields (c .before .before .loop .inv .3))
+item-returns-4 : (t : ℕ) → item-lts.Need-returns-4 (item-claims t) (item-at t) item.Post
+item-returns-4 t c = λ u e h. (let i = is-variant h (c .before .before .before .before .if4 .taken) in variant-read (c .before .before .before .before .before .before .before .before .before .before .args .order) (readVar (c .before .before .before .before .before .before .before .before .before .before .args .order) (c .before .before .before .before .before .before .before .before .before .before .args .levels)) (take (c .before .before .before .before .before .before .before .before .before .before .args .end) (c .before .before .before .before .before .before .before .before .before .before .args .buf .now)) (c .before .before .before .before .before .before .before .before .before .before .args .off) u _ e _ (i .is) (i .ends) (sym (c .before .place .given .1) ∙ c .before .before .before .variant .ensures))
 
-fields-returns-2 : (t : ℕ) → fields-lts.Need-returns-2 (fields-claims t) (fields-at t) fields.Post fields-Inv-loop fields-μ-loop
-fields-returns-2 t c = λ ts e h. (let i = c .before .before .loop .inv .4 ts e h in let j = is-none (i .1) (c .if1 .left) in rw (j .ends) (ap (walkedTo _) (sym (i .2 ∙ fields-end (c .before .before .before .before .before .args .order) (readVar (c .before .before .before .before .before .args .order) (c .before .before .before .before .before .args .levels)) (take (c .before .before .before .before .before .args .end) (c .before .before .before .before .before .args .buf .now)) (i .0) _ (j .is)))))
+item-returns-5 : (t : ℕ) → item-lts.Need-returns-5 (item-claims t) (item-at t) item.Post
+item-returns-5 t c = λ u e h. (let i = is-variant h (c .before .before .before .before .if4 .taken) in variant-read (c .before .before .before .before .before .before .before .before .before .before .args .order) (readVar (c .before .before .before .before .before .before .before .before .before .before .args .order) (c .before .before .before .before .before .before .before .before .before .before .args .levels)) (take (c .before .before .before .before .before .before .before .before .before .before .args .end) (c .before .before .before .before .before .before .before .before .before .before .args .buf .now)) (c .before .before .before .before .before .before .before .before .before .before .args .off) u e e _ (i .is) refl (sym (c .before .refusal .given .1) ∙ c .before .before .before .variant .ensures))
 
-value-shared-slice-read-k : (t : ℕ) → value-lts.Need-shared-slice-read-k (value-claims t) (value-at t) value.Post
-value-shared-slice-read-k t c = start (c .before .before .before .pre .1 .0)
+item-returns-6 : (t : ℕ) → item-lts.Need-returns-6 (item-claims t) (item-at t) item.Post
+item-returns-6 t c = λ u e h. (let i = is-base h (c .before .before .before .before .before .before .if1 .left) (c .before .before .before .before .before .before .before .before .before .before .pre .1 .1 .0) (c .before .before .before .before .before .if3 .left) (c .before .before .before .before .if4 .left) in base-read (c .before .before .before .before .before .before .before .before .before .before .args .order) (readVar (c .before .before .before .before .before .before .before .before .before .before .args .order) (c .before .before .before .before .before .before .before .before .before .before .args .levels)) (take (c .before .before .before .before .before .before .before .before .before .before .args .end) (c .before .before .before .before .before .before .before .before .before .before .args .buf .now)) (c .before .before .before .before .before .before .before .before .before .before .args .off) u (i .of) _ e _ (i .is) (i .ends) (sym (c .before .place2 .given .1) ∙ c .before .before .before .base .ensures (i .of) (i .byte)))
 
-value-add-if2 : (t : ℕ) → value-lts.Need-add-if2 (value-claims t) (value-at t) value.Post
-value-add-if2 t c = omega (arith, start (c .before .before .before .before .pre .1 .0))
+item-returns-7 : (t : ℕ) → item-lts.Need-returns-7 (item-claims t) (item-at t) item.Post
+item-returns-7 t c = λ u e h. (let i = is-base h (c .before .before .before .before .before .before .if1 .left) (c .before .before .before .before .before .before .before .before .before .before .pre .1 .1 .0) (c .before .before .before .before .before .if3 .left) (c .before .before .before .before .if4 .left) in base-read (c .before .before .before .before .before .before .before .before .before .before .args .order) (readVar (c .before .before .before .before .before .before .before .before .before .before .args .order) (c .before .before .before .before .before .before .before .before .before .before .args .levels)) (take (c .before .before .before .before .before .before .before .before .before .before .args .end) (c .before .before .before .before .before .before .before .before .before .before .args .buf .now)) (c .before .before .before .before .before .before .before .before .before .before .args .off) u (i .of) e e _ (i .is) refl (sym (c .before .refusal2 .given .1) ∙ c .before .before .before .base .ensures (i .of) (i .byte)))
 
-value-shared-slice-read-if2 : (t : ℕ) → value-lts.Need-shared-slice-read-if2 (value-claims t) (value-at t) value.Post
-value-shared-slice-read-if2 t c = second (c .before .before .before .before .before .pre .1 .0) (c .before .if1 .taken)
+abbrev value-Inv-loop : value-lts.InvT-loop
+value-Inv-loop order sig at buf end off levels i₀ o₀ depth₀ i o depth = (at ≤ i) × (off ≤ o) × (o ≤ end) × (depth ≤ i) × ((t : Ty) (e : ℕ) → TypeAt t sig at e → Left order levels sig (take end buf) e (walkedOf e (read order (readVar order levels) t (take end buf) off)) i o depth)
 
-value-add-dict : (t : ℕ) → value-lts.Need-add-dict (value-claims t) (value-at t) value.Post
-value-add-dict t c = omega (arith, second (c .before .before .before .before .before .before .pre .1 .0) (c .before .before .if1 .taken))
+abbrev value-μ-loop : value-lts.MeasureT-loop
+value-μ-loop order sig at buf end off levels i₀ o₀ depth₀ i o depth = length sig - i
 
-value-dict-requires : (t : ℕ) → value-lts.Need-dict-requires (value-claims t) (value-at t) value.Post
-value-dict-requires t c κs = (omega (arith, second (c .before .before .before .before .before .before .pre .1 .0) (c .before .before .if1 .taken), c .before .before .before .before .before .before .pre .0), (go-dict (c .before .before .before .before .before .before .pre .1 .0) (c .before .before .if1 .taken) (c .if2 .taken), c .before .before .before .before .before .before .pre .1 .1))
+value-loop-holds : (t : ℕ) → value-lts.Need-loop-holds (value-claims t) (value-at t) value.Post value-Inv-loop value-μ-loop
+value-loop-holds t c = (omega arith, omega arith, c .before .before .pre .1 .1 .inside, omega arith, λ u e h. whole u h refl refl)
 
-value-add-array : (t : ℕ) → value-lts.Need-add-array (value-claims t) (value-at t) value.Post
-value-add-array t c = omega (arith, second (c .before .before .before .before .before .before .pre .1 .0) (c .before .before .if1 .taken))
+value-shared-slice-read-k : (t : ℕ) → value-lts.Need-shared-slice-read-k (value-claims t) (value-at t) value.Post value-Inv-loop value-μ-loop
+value-shared-slice-read-k t c = left-start (c .before .before .before .before .args .order) (c .before .before .before .before .args .levels) (c .before .before .before .before .args .sig .now) (take (c .before .before .before .before .args .end) (c .before .before .before .before .args .buf .now)) _ _ (c .before .loop .inv .4 (c .before .before .before .before .pre .1 .0 .ty) (c .before .before .before .before .pre .1 .0 .next) (c .before .before .before .before .pre .1 .0 .stands))
 
-value-array-requires : (t : ℕ) → value-lts.Need-array-requires (value-claims t) (value-at t) value.Post
-value-array-requires t c κs = (omega (arith, second (c .before .before .before .before .before .before .pre .1 .0) (c .before .before .if1 .taken), c .before .before .before .before .before .before .pre .0), (record { typed = go-array (c .before .before .before .before .before .before .pre .1 .0) (c .before .before .if1 .taken) (c .if2 .left); other = c .if2 .left }, c .before .before .before .before .before .before .pre .1 .1))
+value-padded-requires : (t : ℕ) → value-lts.Need-padded-requires (value-claims t) (value-at t) value.Post value-Inv-loop value-μ-loop
+value-padded-requires t c κs = (record { inside = c .before .before .loop .inv .2; held = c .before .before .before .before .before .pre .1 .1 .held }, tt)
 
-value-padded-requires : (t : ℕ) → value-lts.Need-padded-requires (value-claims t) (value-at t) value.Post
-value-padded-requires t c κs = (c .before .before .before .before .before .pre .1 .1, tt)
-
-value-enum-known-place : (t : ℕ) → value-lts.Need-enum-known-place (value-claims t) (value-at t) value.Post
+value-enum-known-place : (t : ℕ) → value-lts.Need-enum-known-place (value-claims t) (value-at t) value.Post value-Inv-loop value-μ-loop
 value-enum-known-place t c = search needs
 
-value-add-fields : (t : ℕ) → value-lts.Need-add-fields (value-claims t) (value-at t) value.Post
-value-add-fields t c = omega (arith, start (c .before .before .before .before .before .before .before .before .before .pre .1 .0))
+value-add-i : (t : ℕ) → value-lts.Need-add-i (value-claims t) (value-at t) value.Post value-Inv-loop value-μ-loop
+value-add-i t c = omega (arith, left-start (c .before .before .before .before .before .before .before .before .before .args .order) (c .before .before .before .before .before .before .before .before .before .args .levels) (c .before .before .before .before .before .before .before .before .before .args .sig .now) (take (c .before .before .before .before .before .before .before .before .before .args .end) (c .before .before .before .before .before .before .before .before .before .args .buf .now)) _ _ (c .before .before .before .before .before .before .loop .inv .4 (c .before .before .before .before .before .before .before .before .before .pre .1 .0 .ty) (c .before .before .before .before .before .before .before .before .before .pre .1 .0 .next) (c .before .before .before .before .before .before .before .before .before .pre .1 .0 .stands)))
 
-value-fields-requires : (t : ℕ) → value-lts.Need-fields-requires (value-claims t) (value-at t) value.Post
-value-fields-requires t c κs = (let r = padded-within 8 _ _ _ _ _ (c .before .before .before .before .before .before .before .before .before .pre .1 .1) (c .before .before .before .padded .ensures) (c .before .place .given .1) in (omega (arith, start (c .before .before .before .before .before .before .before .before .before .pre .1 .0), r .0, r .1, c .before .before .before .before .before .before .before .before .before .pre .0), (go-struct (c .before .before .before .before .before .before .before .before .before .pre .1 .0) (c .before .before .before .before .if3 .taken), record { inside = r .1; held = c .before .before .before .before .before .before .before .before .before .pre .1 .1 .held })))
+value-add-depth : (t : ℕ) → value-lts.Need-add-depth (value-claims t) (value-at t) value.Post value-Inv-loop value-μ-loop
+value-add-depth t c = omega (arith, left-start (c .before .before .before .before .before .before .before .before .before .args .order) (c .before .before .before .before .before .before .before .before .before .args .levels) (c .before .before .before .before .before .before .before .before .before .args .sig .now) (take (c .before .before .before .before .before .before .before .before .before .args .end) (c .before .before .before .before .before .before .before .before .before .args .buf .now)) _ _ (c .before .before .before .before .before .before .loop .inv .4 (c .before .before .before .before .before .before .before .before .before .pre .1 .0 .ty) (c .before .before .before .before .before .before .before .before .before .pre .1 .0 .next) (c .before .before .before .before .before .before .before .before .before .pre .1 .0 .stands)), c .before .before .before .before .before .before .loop .inv .3)
 
-value-enum-known-refusal : (t : ℕ) → value-lts.Need-enum-known-refusal (value-claims t) (value-at t) value.Post
+value-loop-less : (t : ℕ) → value-lts.Need-loop-less (value-claims t) (value-at t) value.Post value-Inv-loop value-μ-loop
+value-loop-less t c = omega (arith, left-start (c .before .before .before .before .before .before .before .before .before .args .order) (c .before .before .before .before .before .before .before .before .before .args .levels) (c .before .before .before .before .before .before .before .before .before .args .sig .now) (take (c .before .before .before .before .before .before .before .before .before .args .end) (c .before .before .before .before .before .before .before .before .before .args .buf .now)) _ _ (c .before .before .before .before .before .before .loop .inv .4 (c .before .before .before .before .before .before .before .before .before .pre .1 .0 .ty) (c .before .before .before .before .before .before .before .before .before .pre .1 .0 .next) (c .before .before .before .before .before .before .before .before .before .pre .1 .0 .stands)))
+
+value-loop-again : (t : ℕ) → value-lts.Need-loop-again (value-claims t) (value-at t) value.Post value-Inv-loop value-μ-loop
+value-loop-again t c = let r = padded-within 8 _ _ _ _ _ (record { inside = c .before .before .before .before .before .before .loop .inv .2; held = c .before .before .before .before .before .before .before .before .before .pre .1 .1 .held }) (c .before .before .before .padded .ensures) (c .before .place .given .1) in
+    (omega (arith, c .before .before .before .before .before .before .loop .inv .0), omega (arith, r .0, c .before .before .before .before .before .before .loop .inv .1), r .1, omega (arith, c .before .before .before .before .before .before .loop .inv .3), λ u e h. left-open (c .before .before .before .before .before .before .before .before .before .args .order) (c .before .before .before .before .before .before .before .before .before .args .levels) (c .before .before .before .before .before .before .before .before .before .args .sig .now) (take (c .before .before .before .before .before .before .before .before .before .args .end) (c .before .before .before .before .before .before .before .before .before .args .buf .now)) e _ (c .before .before .before .before .before .before .loop .inv .4 u e h) (c .before .before .before .before .if1 .taken) _ (sym (c .before .before .before .padded .ensures) ∙ c .before .place .given .1))
+
+value-enum-known-refusal : (t : ℕ) → value-lts.Need-enum-known-refusal (value-claims t) (value-at t) value.Post value-Inv-loop value-μ-loop
 value-enum-known-refusal t c = search needs
 
-value-add-dict-2 : (t : ℕ) → value-lts.Need-add-dict-2 (value-claims t) (value-at t) value.Post
-value-add-dict-2 t c = omega (arith, start (c .before .before .before .before .before .before .pre .1 .0))
+value-returns : (t : ℕ) → value-lts.Need-returns (value-claims t) (value-at t) value.Post value-Inv-loop value-μ-loop
+value-returns t c = λ u e h. left-shut (c .before .before .before .before .before .before .before .before .before .args .order) (c .before .before .before .before .before .before .before .before .before .args .levels) (c .before .before .before .before .before .before .before .before .before .args .sig .now) (take (c .before .before .before .before .before .before .before .before .before .args .end) (c .before .before .before .before .before .before .before .before .before .args .buf .now)) e _ (c .before .before .before .before .before .before .loop .inv .4 u e h) (c .before .before .before .before .if1 .taken) _ (sym (c .before .before .before .padded .ensures) ∙ c .before .refusal .given .1)
 
-value-dict-requires-2 : (t : ℕ) → value-lts.Need-dict-requires-2 (value-claims t) (value-at t) value.Post
-value-dict-requires-2 t c κs = (omega (arith, start (c .before .before .before .before .before .before .pre .1 .0), c .before .before .before .before .before .before .pre .0), (go-loose (c .before .before .before .before .before .before .pre .1 .0) (c .if4 .taken), c .before .before .before .before .before .before .pre .1 .1))
+value-add-i-2 : (t : ℕ) → value-lts.Need-add-i-2 (value-claims t) (value-at t) value.Post value-Inv-loop value-μ-loop
+value-add-i-2 t c = omega (arith, left-start (c .before .before .before .before .before .before .args .order) (c .before .before .before .before .before .before .args .levels) (c .before .before .before .before .before .before .args .sig .now) (take (c .before .before .before .before .before .before .args .end) (c .before .before .before .before .before .before .args .buf .now)) _ _ (c .before .before .before .loop .inv .4 (c .before .before .before .before .before .before .pre .1 .0 .ty) (c .before .before .before .before .before .before .pre .1 .0 .next) (c .before .before .before .before .before .before .pre .1 .0 .stands)))
 
-value-variant-requires : (t : ℕ) → value-lts.Need-variant-requires (value-claims t) (value-at t) value.Post
-value-variant-requires t c κs = (omega (arith, start (c .before .before .before .before .before .before .before .pre .1 .0), c .before .before .before .before .before .before .before .pre .0), c .before .before .before .before .before .before .before .pre .1 .1)
+value-sub-depth : (t : ℕ) → value-lts.Need-sub-depth (value-claims t) (value-at t) value.Post value-Inv-loop value-μ-loop
+value-sub-depth t c = omega (arith, left-close (c .before .before .before .before .before .before .args .order) (c .before .before .before .before .before .before .args .levels) (c .before .before .before .before .before .before .args .sig .now) (take (c .before .before .before .before .before .before .args .end) (c .before .before .before .before .before .before .args .buf .now)) _ _ (c .before .before .before .loop .inv .4 (c .before .before .before .before .before .before .pre .1 .0 .ty) (c .before .before .before .before .before .before .pre .1 .0 .next) (c .before .before .before .before .before .before .pre .1 .0 .stands)) (c .if2 .taken) .0)
 
-value-enum-known-place-2 : (t : ℕ) → value-lts.Need-enum-known-place-2 (value-claims t) (value-at t) value.Post
-value-enum-known-place-2 t c = search needs
+value-returns-2 : (t : ℕ) → value-lts.Need-returns-2 (value-claims t) (value-at t) value.Post value-Inv-loop value-μ-loop
+value-returns-2 t c = λ u e h. rest-done (c .before .before .before .before .before .before .before .args .order) (c .before .before .before .before .before .before .before .args .levels) (c .before .before .before .before .before .before .before .args .sig .now) (take (c .before .before .before .before .before .before .before .args .end) (c .before .before .before .before .before .before .before .args .buf .now)) e _ (left-close (c .before .before .before .before .before .before .before .args .order) (c .before .before .before .before .before .before .before .args .levels) (c .before .before .before .before .before .before .before .args .sig .now) (take (c .before .before .before .before .before .before .before .args .end) (c .before .before .before .before .before .before .before .args .buf .now)) e _ (c .before .before .before .before .loop .inv .4 u e h) (c .before .if2 .taken) .1) (c .if3 .taken)
 
-value-add-t38 : (t : ℕ) → value-lts.Need-add-t38 (value-claims t) (value-at t) value.Post
-value-add-t38 t c = omega (arith, start (c .before .before .before .before .before .before .before .before .before .before .before .pre .1 .0))
+value-loop-less-2 : (t : ℕ) → value-lts.Need-loop-less-2 (value-claims t) (value-at t) value.Post value-Inv-loop value-μ-loop
+value-loop-less-2 t c = omega (arith, left-start (c .before .before .before .before .before .before .before .args .order) (c .before .before .before .before .before .before .before .args .levels) (c .before .before .before .before .before .before .before .args .sig .now) (take (c .before .before .before .before .before .before .before .args .end) (c .before .before .before .before .before .before .before .args .buf .now)) _ _ (c .before .before .before .before .loop .inv .4 (c .before .before .before .before .before .before .before .pre .1 .0 .ty) (c .before .before .before .before .before .before .before .pre .1 .0 .next) (c .before .before .before .before .before .before .before .pre .1 .0 .stands)))
 
-value-enum-known-refusal-2 : (t : ℕ) → value-lts.Need-enum-known-refusal-2 (value-claims t) (value-at t) value.Post
+value-loop-again-2 : (t : ℕ) → value-lts.Need-loop-again-2 (value-claims t) (value-at t) value.Post value-Inv-loop value-μ-loop
+value-loop-again-2 t c = (omega (arith, c .before .before .before .before .loop .inv .0), c .before .before .before .before .loop .inv .1, c .before .before .before .before .loop .inv .2, omega (arith, c .before .before .before .before .loop .inv .3), λ u e h. inside (c .if3 .left) (left-close (c .before .before .before .before .before .before .before .args .order) (c .before .before .before .before .before .before .before .args .levels) (c .before .before .before .before .before .before .before .args .sig .now) (take (c .before .before .before .before .before .before .before .args .end) (c .before .before .before .before .before .before .before .args .buf .now)) e _ (c .before .before .before .before .loop .inv .4 u e h) (c .before .if2 .taken) .1))
+
+value-item-requires : (t : ℕ) → value-lts.Need-item-requires (value-claims t) (value-at t) value.Post value-Inv-loop value-μ-loop
+value-item-requires t c κs = (omega (arith, c .before .before .before .before .before .before .pre .0, c .before .before .before .loop .inv .0, c .before .before .before .loop .inv .1, c .before .before .before .loop .inv .2), ((left-typed (c .before .before .before .before .before .before .args .order) (c .before .before .before .before .before .before .args .levels) (c .before .before .before .before .before .before .args .sig .now) (take (c .before .before .before .before .before .before .args .end) (c .before .before .before .before .before .before .args .buf .now)) _ _ (c .before .before .before .loop .inv .4 (c .before .before .before .before .before .before .pre .1 .0 .ty) (c .before .before .before .before .before .before .pre .1 .0 .next) (c .before .before .before .before .before .before .pre .1 .0 .stands)) (c .if2 .left)), (c .before .if1 .left, record { inside = c .before .before .before .loop .inv .2; held = c .before .before .before .before .before .before .pre .1 .1 .held })))
+
+value-enum-known-n : (t : ℕ) → value-lts.Need-enum-known-n (value-claims t) (value-at t) value.Post value-Inv-loop value-μ-loop
+value-enum-known-n t c = search needs
+
+value-returns-3 : (t : ℕ) → value-lts.Need-returns-3 (value-claims t) (value-at t) value.Post value-Inv-loop value-μ-loop
+value-returns-3 t c = λ u e h. rest-done (c .before .before .before .before .before .before .before .before .before .before .before .args .order) (c .before .before .before .before .before .before .before .before .before .before .before .args .levels) (c .before .before .before .before .before .before .before .before .before .before .before .args .sig .now) (take (c .before .before .before .before .before .before .before .before .before .before .before .args .end) (c .before .before .before .before .before .before .before .before .before .before .before .args .buf .now)) e _ (left-past (c .before .before .before .before .before .before .before .before .before .before .before .args .order) (c .before .before .before .before .before .before .before .before .before .before .before .args .levels) (c .before .before .before .before .before .before .before .before .before .before .before .args .sig .now) (take (c .before .before .before .before .before .before .before .before .before .before .before .args .end) (c .before .before .before .before .before .before .before .before .before .before .before .args .buf .now)) e _ (c .before .before .before .before .before .before .before .before .loop .inv .4 u e h) (c .before .before .before .before .before .if2 .left) _ (c .before .before .before .before .item .ensures) _ _ (c .before .before .n .given .1) .1) (c .if4 .taken)
+
+value-loop-less-3 : (t : ℕ) → value-lts.Need-loop-less-3 (value-claims t) (value-at t) value.Post value-Inv-loop value-μ-loop
+value-loop-less-3 t c = omega (arith, left-start (c .before .before .before .before .before .before .before .before .before .before .before .args .order) (c .before .before .before .before .before .before .before .before .before .before .before .args .levels) (c .before .before .before .before .before .before .before .before .before .before .before .args .sig .now) (take (c .before .before .before .before .before .before .before .before .before .before .before .args .end) (c .before .before .before .before .before .before .before .before .before .before .before .args .buf .now)) _ _ (c .before .before .before .before .before .before .before .before .loop .inv .4 (c .before .before .before .before .before .before .before .before .before .before .before .pre .1 .0 .ty) (c .before .before .before .before .before .before .before .before .before .before .before .pre .1 .0 .next) (c .before .before .before .before .before .before .before .before .before .before .before .pre .1 .0 .stands)), left-past (c .before .before .before .before .before .before .before .before .before .before .before .args .order) (c .before .before .before .before .before .before .before .before .before .before .before .args .levels) (c .before .before .before .before .before .before .before .before .before .before .before .args .sig .now) (take (c .before .before .before .before .before .before .before .before .before .before .before .args .end) (c .before .before .before .before .before .before .before .before .before .before .before .args .buf .now)) _ _ (c .before .before .before .before .before .before .before .before .loop .inv .4 (c .before .before .before .before .before .before .before .before .before .before .before .pre .1 .0 .ty) (c .before .before .before .before .before .before .before .before .before .before .before .pre .1 .0 .next) (c .before .before .before .before .before .before .before .before .before .before .before .pre .1 .0 .stands)) (c .before .before .before .before .before .if2 .left) _ (c .before .before .before .before .item .ensures) _ _ (c .before .before .n .given .1) .0)
+
+value-loop-again-3 : (t : ℕ) → value-lts.Need-loop-again-3 (value-claims t) (value-at t) value.Post value-Inv-loop value-μ-loop
+value-loop-again-3 t c = let m = value-moved (c .before .before .before .before .before .before .before .before .before .before .before .args .order) (c .before .before .before .before .before .before .before .before .before .before .before .args .levels) (c .before .before .before .before .before .before .before .before .before .before .before .args .sig .now) (c .before .before .before .before .before .before .before .before .before .before .before .args .buf .now) (c .before .before .before .before .before .before .before .before .before .before .before .args .end) (c .before .before .before .before .before .before .before .before .before .before .before .pre .1 .1 .held) _ _ _ _ _ (left-typed (c .before .before .before .before .before .before .before .before .before .before .before .args .order) (c .before .before .before .before .before .before .before .before .before .before .before .args .levels) (c .before .before .before .before .before .before .before .before .before .before .before .args .sig .now) (take (c .before .before .before .before .before .before .before .before .before .before .before .args .end) (c .before .before .before .before .before .before .before .before .before .before .before .args .buf .now)) _ _ (c .before .before .before .before .before .before .before .before .loop .inv .4 (c .before .before .before .before .before .before .before .before .before .before .before .pre .1 .0 .ty) (c .before .before .before .before .before .before .before .before .before .before .before .pre .1 .0 .next) (c .before .before .before .before .before .before .before .before .before .before .before .pre .1 .0 .stands)) (c .before .before .before .before .before .if2 .left)) (c .before .before .before .before .item .ensures) (c .before .before .before .before .before .before .before .before .loop .inv .2) (c .before .before .n .given .1) in let j = left-past (c .before .before .before .before .before .before .before .before .before .before .before .args .order) (c .before .before .before .before .before .before .before .before .before .before .before .args .levels) (c .before .before .before .before .before .before .before .before .before .before .before .args .sig .now) (take (c .before .before .before .before .before .before .before .before .before .before .before .args .end) (c .before .before .before .before .before .before .before .before .before .before .before .args .buf .now)) _ _ (c .before .before .before .before .before .before .before .before .loop .inv .4 (c .before .before .before .before .before .before .before .before .before .before .before .pre .1 .0 .ty) (c .before .before .before .before .before .before .before .before .before .before .before .pre .1 .0 .next) (c .before .before .before .before .before .before .before .before .before .before .before .pre .1 .0 .stands)) (c .before .before .before .before .before .if2 .left) _ (c .before .before .before .before .item .ensures) _ _ (c .before .before .n .given .1) .0 in
+    (omega (arith, c .before .before .before .before .before .before .before .before .loop .inv .0), omega (arith, m .0, c .before .before .before .before .before .before .before .before .loop .inv .1), m .1, omega (arith, c .before .before .before .before .before .before .before .before .loop .inv .3), λ u e h. inside (c .if4 .left) (left-past (c .before .before .before .before .before .before .before .before .before .before .before .args .order) (c .before .before .before .before .before .before .before .before .before .before .before .args .levels) (c .before .before .before .before .before .before .before .before .before .before .before .args .sig .now) (take (c .before .before .before .before .before .before .before .before .before .before .before .args .end) (c .before .before .before .before .before .before .before .before .before .before .before .args .buf .now)) e _ (c .before .before .before .before .before .before .before .before .loop .inv .4 u e h) (c .before .before .before .before .before .if2 .left) _ (c .before .before .before .before .item .ensures) _ _ (c .before .before .n .given .1) .1))
+
+value-enum-known-refusal-2 : (t : ℕ) → value-lts.Need-enum-known-refusal-2 (value-claims t) (value-at t) value.Post value-Inv-loop value-μ-loop
 value-enum-known-refusal-2 t c = search needs
 
-value-base-requires : (t : ℕ) → value-lts.Need-base-requires (value-claims t) (value-at t) value.Post
-value-base-requires t c κs = (let i = is-base (c .before .before .before .before .before .before .before .pre .1 .0 .stands) (c .before .before .before .if1 .left) (c .before .before .if3 .left) (c .before .if4 .left) (c .if5 .left) in (record { of = i .of; is = i .byte }, c .before .before .before .before .before .before .before .pre .1 .1))
-
-value-enum-known-place-3 : (t : ℕ) → value-lts.Need-enum-known-place-3 (value-claims t) (value-at t) value.Post
-value-enum-known-place-3 t c = search needs
-
-value-add-t41 : (t : ℕ) → value-lts.Need-add-t41 (value-claims t) (value-at t) value.Post
-value-add-t41 t c = omega (arith, start (c .before .before .before .before .before .before .before .before .before .before .before .pre .1 .0))
-
-value-enum-known-refusal-3 : (t : ℕ) → value-lts.Need-enum-known-refusal-3 (value-claims t) (value-at t) value.Post
-value-enum-known-refusal-3 t c = search needs
-
-value-returns : (t : ℕ) → value-lts.Need-returns (value-claims t) (value-at t) value.Post
-value-returns t c = λ u e h. (let i = is-dict h (c .before .before .before .if1 .taken) (c .before .if2 .taken) in dict-read (c .before .before .before .before .before .before .before .args .order) (readVar (c .before .before .before .before .before .before .before .args .order) (c .before .before .before .before .before .before .before .args .levels)) (take (c .before .before .before .before .before .before .before .args .end) (c .before .before .before .before .before .before .before .args .buf .now)) (c .before .before .before .before .before .before .before .args .off) u inArray (i .key) (i .value) e _ (i .is) (c .dict .ensures (i .key) (i .value) e (i .stands)))
-
-value-returns-2 : (t : ℕ) → value-lts.Need-returns-2 (value-claims t) (value-at t) value.Post
-value-returns-2 t c = λ u e h. (let i = is-array h (c .before .before .before .if1 .taken) (c .before .if2 .left) in array-read (c .before .before .before .before .before .before .before .args .order) (readVar (c .before .before .before .before .before .before .before .args .order) (c .before .before .before .before .before .before .before .args .levels)) (take (c .before .before .before .before .before .before .before .args .end) (c .before .before .before .before .before .before .before .args .buf .now)) (c .before .before .before .before .before .before .before .args .off) u (i .element) e _ (i .is) (c .array .ensures (i .element) e (i .stands)))
-
-value-returns-3 : (t : ℕ) → value-lts.Need-returns-3 (value-claims t) (value-at t) value.Post
-value-returns-3 t c = λ u e h. (let i = is-struct h (c .before .before .before .before .before .if3 .taken) in struct-read (c .before .before .before .before .before .before .before .before .before .before .args .order) (readVar (c .before .before .before .before .before .before .before .before .before .before .args .order) (c .before .before .before .before .before .before .before .before .before .before .args .levels)) (take (c .before .before .before .before .before .before .before .before .before .before .args .end) (c .before .before .before .before .before .before .before .before .before .before .args .buf .now)) (c .before .before .before .before .before .before .before .before .before .before .args .off) u (i .fields) e _ _ (i .is) (sym (c .before .before .before .before .padded .ensures) ∙ c .before .before .place .given .1) (c .fields .ensures _ e (i .stands)))
-
-value-returns-4 : (t : ℕ) → value-lts.Need-returns-4 (value-claims t) (value-at t) value.Post
-value-returns-4 t c = λ u e h. (let i = is-struct h (c .before .before .before .before .if3 .taken) in struct-stop (c .before .before .before .before .before .before .before .before .before .args .order) (readVar (c .before .before .before .before .before .before .before .before .before .args .order) (c .before .before .before .before .before .before .before .before .before .args .levels)) (take (c .before .before .before .before .before .before .before .before .before .args .end) (c .before .before .before .before .before .before .before .before .before .args .buf .now)) (c .before .before .before .before .before .before .before .before .before .args .off) u (i .fields) e _ (i .is) (sym (c .before .before .before .padded .ensures) ∙ c .before .refusal .given .1))
-
-value-returns-5 : (t : ℕ) → value-lts.Need-returns-5 (value-claims t) (value-at t) value.Post
-value-returns-5 t c = λ u e h. (let i = is-loose h (c .before .if4 .taken) in dict-read (c .before .before .before .before .before .before .before .args .order) (readVar (c .before .before .before .before .before .before .before .args .order) (c .before .before .before .before .before .before .before .args .levels)) (take (c .before .before .before .before .before .before .before .args .end) (c .before .before .before .before .before .before .before .args .buf .now)) (c .before .before .before .before .before .before .before .args .off) u loose (i .key) (i .value) e _ (i .is) (c .dict2 .ensures (i .key) (i .value) e (i .stands)))
-
-value-returns-6 : (t : ℕ) → value-lts.Need-returns-6 (value-claims t) (value-at t) value.Post
-value-returns-6 t c = λ u e h. (let i = is-variant h (c .before .before .before .before .if5 .taken) in variant-read (c .before .before .before .before .before .before .before .before .before .before .before .args .order) (readVar (c .before .before .before .before .before .before .before .before .before .before .before .args .order) (c .before .before .before .before .before .before .before .before .before .before .before .args .levels)) (take (c .before .before .before .before .before .before .before .before .before .before .before .args .end) (c .before .before .before .before .before .before .before .before .before .before .before .args .buf .now)) (c .before .before .before .before .before .before .before .before .before .before .before .args .off) u _ e _ (i .is) (i .ends) (sym (c .before .place2 .given .1) ∙ c .before .before .before .variant .ensures))
-
-value-returns-7 : (t : ℕ) → value-lts.Need-returns-7 (value-claims t) (value-at t) value.Post
-value-returns-7 t c = λ u e h. (let i = is-variant h (c .before .before .before .before .if5 .taken) in variant-read (c .before .before .before .before .before .before .before .before .before .before .before .args .order) (readVar (c .before .before .before .before .before .before .before .before .before .before .before .args .order) (c .before .before .before .before .before .before .before .before .before .before .before .args .levels)) (take (c .before .before .before .before .before .before .before .before .before .before .before .args .end) (c .before .before .before .before .before .before .before .before .before .before .before .args .buf .now)) (c .before .before .before .before .before .before .before .before .before .before .before .args .off) u e e _ (i .is) refl (sym (c .before .refusal2 .given .1) ∙ c .before .before .before .variant .ensures))
-
-value-returns-8 : (t : ℕ) → value-lts.Need-returns-8 (value-claims t) (value-at t) value.Post
-value-returns-8 t c = λ u e h. (let i = is-base h (c .before .before .before .before .before .before .before .if1 .left) (c .before .before .before .before .before .before .if3 .left) (c .before .before .before .before .before .if4 .left) (c .before .before .before .before .if5 .left) in base-read (c .before .before .before .before .before .before .before .before .before .before .before .args .order) (readVar (c .before .before .before .before .before .before .before .before .before .before .before .args .order) (c .before .before .before .before .before .before .before .before .before .before .before .args .levels)) (take (c .before .before .before .before .before .before .before .before .before .before .before .args .end) (c .before .before .before .before .before .before .before .before .before .before .before .args .buf .now)) (c .before .before .before .before .before .before .before .before .before .before .before .args .off) u (i .of) _ e _ (i .is) (i .ends) (sym (c .before .place3 .given .1) ∙ c .before .before .before .base .ensures (i .of) (i .byte)))
-
-value-returns-9 : (t : ℕ) → value-lts.Need-returns-9 (value-claims t) (value-at t) value.Post
-value-returns-9 t c = λ u e h. (let i = is-base h (c .before .before .before .before .before .before .before .if1 .left) (c .before .before .before .before .before .before .if3 .left) (c .before .before .before .before .before .if4 .left) (c .before .before .before .before .if5 .left) in base-read (c .before .before .before .before .before .before .before .before .before .before .before .args .order) (readVar (c .before .before .before .before .before .before .before .before .before .before .before .args .order) (c .before .before .before .before .before .before .before .before .before .before .before .args .levels)) (take (c .before .before .before .before .before .before .before .before .before .before .before .args .end) (c .before .before .before .before .before .before .before .before .before .before .before .args .buf .now)) (c .before .before .before .before .before .before .before .before .before .before .before .args .off) u (i .of) e e _ (i .is) refl (sym (c .before .refusal3 .given .1) ∙ c .before .before .before .base .ensures (i .of) (i .byte)))
+value-returns-4 : (t : ℕ) → value-lts.Need-returns-4 (value-claims t) (value-at t) value.Post value-Inv-loop value-μ-loop
+value-returns-4 t c = λ u e h. left-stop (c .before .before .before .before .before .before .before .before .before .before .args .order) (c .before .before .before .before .before .before .before .before .before .before .args .levels) (c .before .before .before .before .before .before .before .before .before .before .args .sig .now) (take (c .before .before .before .before .before .before .before .before .before .before .args .end) (c .before .before .before .before .before .before .before .before .before .before .args .buf .now)) e _ (c .before .before .before .before .before .before .before .loop .inv .4 u e h) (c .before .before .before .before .if2 .left) _ (c .before .before .before .item .ensures) _ (c .before .refusal2 .given .1)
 
 variant-refuse-requires : (t : ℕ) → variant-lts.Need-refuse-requires (variant-claims t) (variant-at t) variant.Post
 variant-refuse-requires t c κs = search needs
@@ -649,9 +621,9 @@ variant-returns-3 t c = (let i = inner-at (c .before .before .before .before .be
 variant-returns-4 : (t : ℕ) → variant-lts.Need-returns-4 (variant-claims t) (variant-at t) variant.Post
 variant-returns-4 t c = variant-shut (c .before .before .before .before .before .before .args .order) (take (c .before .before .before .before .before .before .args .end) (c .before .before .before .before .before .before .args .buf .now)) (c .before .before .before .before .before .before .args .off) (c .before .before .before .before .before .before .args .levels) _ (c .before .before .before .before .if1 .left) (inner-shut (c .before .before .before .before .before .before .args .order) (c .before .before .before .before .before .before .args .buf .now) (c .before .before .before .before .before .before .args .end) (c .before .before .before .before .before .before .args .off) _ _ (c .before .refusal2 .given .1) (c .before .before .before .inner .ensures _))
 
-pub +array+composites+dict+elements+entries+entry+field+fields+value+variant-spec :
+pub +array+composites+dict+elements+entries+entry+item+value+variant-spec :
     {M : Type 1} → statement M
-+array+composites+dict+elements+entries+entry+field+fields+value+variant-spec =
++array+composites+dict+elements+entries+entry+item+value+variant-spec =
     close
     μ-array
     μ-composites
@@ -659,8 +631,7 @@ pub +array+composites+dict+elements+entries+entry+field+fields+value+variant-spe
     μ-elements
     μ-entries
     μ-entry
-    μ-field
-    μ-fields
+    μ-item
     μ-value
     μ-variant
     (λ t. array-lts.spec (
@@ -782,89 +753,70 @@ pub +array+composites+dict+elements+entries+entry+field+fields+value+variant-spe
     (entry-returns-2 t)
     (entry-returns-3 t)
     (entry-returns-4 t))
-    (λ t. field-lts.spec (
-      is-composite-reads.Asked,
-      is-composite-reads.Learnt,
-      value-below t,
-      value.Post,
-      base-reads.Asked,
-      base-reads.Learnt,
-    )
-    (field-at t)
-    field.Post
-    (field-shared-slice-read-k t)
-    (field-is-composite-requires t)
-    (field-value-requires t)
-    (field-base-requires t)
-    (field-enum-known-place t)
-    (field-add-t17 t)
-    (field-enum-known-refusal t)
-    (field-returns t)
-    (field-returns-2 t)
-    (field-returns-3 t))
-    (λ t. fields-lts.spec
-    (field-below t, field.Post)
-    (fields-at t)
-    fields.Post
-    fields-Inv-loop
-    fields-μ-loop
-    (fields-loop-holds t)
-    (fields-shared-slice-read-if1 t)
-    (fields-field-requires t)
-    (fields-enum-known-n t)
-    (fields-loop-less t)
-    (fields-loop-again t)
-    (fields-enum-known-refusal t)
-    (fields-returns t)
-    (fields-add-t17 t)
-    (fields-returns-2 t))
-    (λ t. value-lts.spec (
+    (λ t. item-lts.spec (
       dict-below t,
       dict.Post,
       array-below t,
       array.Post,
-      padded-reads.Asked,
-      padded-reads.Learnt,
-      fields-below t,
-      fields.Post,
       variant-below t,
       variant.Post,
       base-reads.Asked,
       base-reads.Learnt,
     )
+    (item-at t)
+    item.Post
+    (item-shared-slice-read-k t)
+    (item-add-if2 t)
+    (item-shared-slice-read-if2 t)
+    (item-add-dict t)
+    (item-dict-requires t)
+    (item-add-array t)
+    (item-array-requires t)
+    (item-add-dict-2 t)
+    (item-dict-requires-2 t)
+    (item-variant-requires t)
+    (item-enum-known-place t)
+    (item-add-t31 t)
+    (item-enum-known-refusal t)
+    (item-base-requires t)
+    (item-enum-known-place-2 t)
+    (item-add-t34 t)
+    (item-enum-known-refusal-2 t)
+    (item-returns t)
+    (item-returns-2 t)
+    (item-returns-3 t)
+    (item-returns-4 t)
+    (item-returns-5 t)
+    (item-returns-6 t)
+    (item-returns-7 t))
+    (λ t. value-lts.spec
+    (padded-reads.Asked, padded-reads.Learnt, item-below t, item.Post)
     (value-at t)
     value.Post
+    value-Inv-loop
+    value-μ-loop
+    (value-loop-holds t)
     (value-shared-slice-read-k t)
-    (value-add-if2 t)
-    (value-shared-slice-read-if2 t)
-    (value-add-dict t)
-    (value-dict-requires t)
-    (value-add-array t)
-    (value-array-requires t)
     (value-padded-requires t)
     (value-enum-known-place t)
-    (value-add-fields t)
-    (value-fields-requires t)
+    (value-add-i t)
+    (value-add-depth t)
+    (value-loop-less t)
+    (value-loop-again t)
     (value-enum-known-refusal t)
-    (value-add-dict-2 t)
-    (value-dict-requires-2 t)
-    (value-variant-requires t)
-    (value-enum-known-place-2 t)
-    (value-add-t38 t)
-    (value-enum-known-refusal-2 t)
-    (value-base-requires t)
-    (value-enum-known-place-3 t)
-    (value-add-t41 t)
-    (value-enum-known-refusal-3 t)
     (value-returns t)
+    (value-add-i-2 t)
+    (value-sub-depth t)
     (value-returns-2 t)
+    (value-loop-less-2 t)
+    (value-loop-again-2 t)
+    (value-item-requires t)
+    (value-enum-known-n t)
     (value-returns-3 t)
-    (value-returns-4 t)
-    (value-returns-5 t)
-    (value-returns-6 t)
-    (value-returns-7 t)
-    (value-returns-8 t)
-    (value-returns-9 t))
+    (value-loop-less-3 t)
+    (value-loop-again-3 t)
+    (value-enum-known-refusal-2 t)
+    (value-returns-4 t))
     λ t. variant-lts.spec (
       refuse-reads.Asked,
       refuse-reads.Learnt,
