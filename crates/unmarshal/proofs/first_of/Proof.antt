@@ -1,0 +1,18 @@
+-- By whether there was one before.
+use mathlib.Core.Path.{_≡_, refl}
+use Prim.Native.Nat.{ℕ, zero, suc}
+use Rattle.unmarshal.proofs.CodeLaws.{later-kept}
+use borrow.Author.Needs.{needs}
+use Rattle.unmarshal.proofs.first_of.Statement.{statement}
+use Rattle.unmarshal.proofs.first_of.Tie as tie
+use Rattle.unmarshal.proofs.first_of.Reads as reads
+use Rattle.unmarshal.proofs.first_of.Lts as lts
+
+returns : tie.Need-returns
+returns c = search needs
+
+returns-2 : tie.Need-returns-2
+returns-2 c = later-kept _ _ _ (c .if1 .left)
+
+pub first-of-spec : {M : Type 1} → statement M
+first-of-spec = tie.close (tie.spec returns returns-2)

@@ -1,0 +1,26 @@
+-- Both tests.
+use mathlib.Core.Path.{_≡_, refl, sym, _∙_, ap}
+use mathlib.Core.Bool.{_&&_}
+use borrow.Author.Needs.{needs}
+use Rattle.unmarshal.proofs.validate_header_fields.Statement.{statement}
+use Rattle.unmarshal.proofs.validate_header_fields.Tie as tie
+use Rattle.unmarshal.proofs.validate_header_fields.Reads as reads
+use Rattle.unmarshal.proofs.validate_header_fields.Lts as lts
+use Rattle.unmarshal.proofs.required.Reads as required-reads
+use Rattle.unmarshal.proofs.unrepeated.Reads as unrepeated-reads
+
+required-requires : tie.Need-required-requires
+required-requires c κs = search needs
+
+unrepeated-requires : tie.Need-unrepeated-requires
+unrepeated-requires c κs = search needs
+
+returns : tie.Need-returns
+returns c = rw (← c .before .before .required .ensures, c .before .if1 .taken) (c .unrepeated .ensures)
+
+returns-2 : tie.Need-returns-2
+returns-2 c = rw (← c .before .required .ensures, c .if1 .left)
+
+pub validate-header-fields-spec : {M : Type 1} → statement M
+validate-header-fields-spec =
+    tie.close (tie.spec required-requires unrepeated-requires returns returns-2)
