@@ -6,7 +6,7 @@ use mathlib.Core.List.{List, [], _∷_, _++_}
 use mathlib.Core.Path.{_≡_, refl, ap, sym, subst, _∙_}
 use lib.ListN.{length, getD}
 use lib.Dec.{eqb, T}
-use borrow.Author.Tests.{eq-eqb}
+use borrow.Author.Tests.{eq-eqb, ne-eqb, eqb-true}
 use Rattle.meaning.specs.Types.{Fix, byte, bool, i16, u16, i32, u32, i64, u64, dbl, fd, Base, fix, str, path, sig, Form, inArray, loose, Ty, base, arr, dict, struct, variant, Tys, size, align, whole}
 use Rattle.meaning.specs.Signature.{code, spell, notLoose, find, opening}
 use Rattle.meaning.specs.Writers.{isAlignment}
@@ -108,3 +108,8 @@ basic {k} h = (λ e. no (rw (eq-eqb k 97 e) at h), λ e. no (second (eqb k 97) (
     fourth false true c d e z = z
     fourth false false true d e z = z
     fourth false false false d e z = sym e ∙ z
+
+-- a code that begins a composite type, and is none of three of them, is the fourth
+pub fourth-composite : {k : ℕ} → composite k ≡ true → (k ≡ 97 → ⊥) → (k ≡ 40 → ⊥) → (k ≡ 123 → ⊥) → k ≡ 118
+unfolding composite
+fourth-composite {k} h a b c = eqb-true k 118 (rw (ne-eqb k 97 a, ne-eqb k 40 b, ne-eqb k 123 c) at h)

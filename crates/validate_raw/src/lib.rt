@@ -1,5 +1,6 @@
 // Values checked raw (validate_raw.rs): document 01, port order 4.
 ghost use mathlib.Core.Path.{_≡_};
+ghost use mathlib.Core.Bool.{true};
 ghost use Prim.Native.Nat.{ℕ, _+_, _-_, _≤_, _<_};
 ghost use lib.Dec.{T};
 ghost use lib.ListN.{length, take, drop, getD};
@@ -303,7 +304,7 @@ pub fn value(
             if depth == 0 {
                 return Walked::Past(i, o);
             }
-        } else {
+        } else if is_composite(k) {
             match item(order, sig, i, buf, end, o, levels) {
                 Walked::Past(n, p) => {
                     if depth == 0 {
@@ -316,11 +317,24 @@ pub fn value(
                     return Walked::Refused(refusal);
                 }
             }
+        } else {
+            match base(order, k, buf, end, o) {
+                Reached::At(place) => {
+                    i += 1;
+                    o = place.0;
+                    if depth == 0 {
+                        return Walked::Past(i, o);
+                    }
+                }
+                Reached::Refused(refusal) => {
+                    return Walked::Refused(refusal);
+                }
+            }
         }
     }
 }
 
-// A value of the type at `at`, which is no struct.
+// A value of the type at `at`, which is an array, a dict or a variant.
 fn item(
     order: Order,
     sig: &[u8],
@@ -331,6 +345,7 @@ fn item(
     levels: usize,
 ) -> Walked
     requires { ⌜ Typed (now sig) at ⌝ }
+    requires { ⌜ composite (getD (now sig) at 0) ≡ true ⌝ }
     requires { ⌜ (getD (now sig) at 0 ≡ 40 → ⊥) ⌝ }
     requires { ⌜ Window (now buf) end off ⌝ }
     ensures { λ r. ⌜ ((t : Ty) (e : ℕ) → TypeAt t (now (sig .entry)) at e →
@@ -345,13 +360,8 @@ fn item(
         }
     } else if k == b'{' {
         dict(order, sig, at + 1, buf, end, off, levels)
-    } else if k == b'v' {
-        match variant(order, buf, end, off, levels) {
-            Reached::At(place) => Walked::Past(at + 1, place.0),
-            Reached::Refused(refusal) => Walked::Refused(refusal),
-        }
     } else {
-        match base(order, k, buf, end, off) {
+        match variant(order, buf, end, off, levels) {
             Reached::At(place) => Walked::Past(at + 1, place.0),
             Reached::Refused(refusal) => Walked::Refused(refusal),
         }

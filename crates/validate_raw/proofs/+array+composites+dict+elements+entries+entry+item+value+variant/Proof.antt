@@ -22,7 +22,7 @@ use Rattle.util.proofs.Windows.{reached-within}
 use Rattle.meaning.proofs.ValueLocal.{baseR-local}
 use Rattle.validate_raw.specs.Walk.{walkedOf, entryR, InnerIs}
 use Rattle.validate_raw.proofs.OpenLaws.{padded-within}
-use Rattle.validate_raw.proofs.ElementLaws.{element-alignment, basic}
+use Rattle.validate_raw.proofs.ElementLaws.{element-alignment, basic, fourth-composite}
 use Rattle.validate_raw.proofs.LoopLaws.{began}
 use Rattle.validate_raw.proofs.WalkLaws.{base-read, variant-read, dict-read, array-read, variant-deep, variant-shut, variant-holds, inner-at, inner-shut, inner-inside, inner-typed, elements-basic, past-next, walked-place, walked-refusal}
 use Rattle.validate_raw.proofs.CycleLaws.{value-local, value-grows, entryR-local, entryR-grows, walk-moved, walk-turned, walk-refused, walk-ended, walk-none, opened-within, dict-shut, dict-entries, array-shut, array-elements, array-plain, array-ragged, entry-stop, entry-key, entry-past, entry-value, second}
@@ -186,10 +186,10 @@ abbrev entry-claims : ℕ → entry-lts.Claims
 entry-claims t = (padded-reads.Asked, padded-reads.Learnt, base-reads.Asked, base-reads.Learnt, value-below t, value.Post)
 
 abbrev item-claims : ℕ → item-lts.Claims
-item-claims t = (dict-below t, dict.Post, array-below t, array.Post, variant-below t, variant.Post, base-reads.Asked, base-reads.Learnt)
+item-claims t = (dict-below t, dict.Post, array-below t, array.Post, variant-below t, variant.Post)
 
 abbrev value-claims : ℕ → value-lts.Claims
-value-claims t = (padded-reads.Asked, padded-reads.Learnt, item-below t, item.Post)
+value-claims t = (padded-reads.Asked, padded-reads.Learnt, is-composite-reads.Asked, is-composite-reads.Learnt, item-below t, item.Post, base-reads.Asked, base-reads.Learnt)
 
 abbrev variant-claims : ℕ → variant-lts.Claims
 variant-claims t = (refuse-reads.Asked, refuse-reads.Learnt, inner-reads.Asked, inner-reads.Learnt, value-below t, value.Post)
@@ -440,43 +440,31 @@ item-add-dict : (t : ℕ) → item-lts.Need-add-dict (item-claims t) (item-at t)
 item-add-dict t c = omega (arith, second (c .before .before .before .before .before .before .pre .1 .0) (c .before .before .if1 .taken))
 
 item-dict-requires : (t : ℕ) → item-lts.Need-dict-requires (item-claims t) (item-at t) item.Post
-item-dict-requires t c κs = (omega (arith, second (c .before .before .before .before .before .before .pre .1 .0) (c .before .before .if1 .taken), c .before .before .before .before .before .before .pre .0), (go-dict (c .before .before .before .before .before .before .pre .1 .0) (c .before .before .if1 .taken) (c .if2 .taken), c .before .before .before .before .before .before .pre .1 .1 .1))
+item-dict-requires t c κs = (omega (arith, second (c .before .before .before .before .before .before .pre .1 .0) (c .before .before .if1 .taken), c .before .before .before .before .before .before .pre .0), (go-dict (c .before .before .before .before .before .before .pre .1 .0) (c .before .before .if1 .taken) (c .if2 .taken), c .before .before .before .before .before .before .pre .1 .1 .1 .1))
 
 item-add-array : (t : ℕ) → item-lts.Need-add-array (item-claims t) (item-at t) item.Post
 item-add-array t c = omega (arith, second (c .before .before .before .before .before .before .pre .1 .0) (c .before .before .if1 .taken))
 
 item-array-requires : (t : ℕ) → item-lts.Need-array-requires (item-claims t) (item-at t) item.Post
-item-array-requires t c κs = (omega (arith, second (c .before .before .before .before .before .before .pre .1 .0) (c .before .before .if1 .taken), c .before .before .before .before .before .before .pre .0), (record { typed = go-array (c .before .before .before .before .before .before .pre .1 .0) (c .before .before .if1 .taken) (c .if2 .left); other = c .if2 .left }, c .before .before .before .before .before .before .pre .1 .1 .1))
+item-array-requires t c κs = (omega (arith, second (c .before .before .before .before .before .before .pre .1 .0) (c .before .before .if1 .taken), c .before .before .before .before .before .before .pre .0), (record { typed = go-array (c .before .before .before .before .before .before .pre .1 .0) (c .before .before .if1 .taken) (c .if2 .left); other = c .if2 .left }, c .before .before .before .before .before .before .pre .1 .1 .1 .1))
 
 item-add-dict-2 : (t : ℕ) → item-lts.Need-add-dict-2 (item-claims t) (item-at t) item.Post
 item-add-dict-2 t c = omega (arith, start (c .before .before .before .before .before .pre .1 .0))
 
 item-dict-requires-2 : (t : ℕ) → item-lts.Need-dict-requires-2 (item-claims t) (item-at t) item.Post
-item-dict-requires-2 t c κs = (omega (arith, start (c .before .before .before .before .before .pre .1 .0), c .before .before .before .before .before .pre .0), (go-loose (c .before .before .before .before .before .pre .1 .0) (c .if3 .taken), c .before .before .before .before .before .pre .1 .1 .1))
+item-dict-requires-2 t c κs = (omega (arith, start (c .before .before .before .before .before .pre .1 .0), c .before .before .before .before .before .pre .0), (go-loose (c .before .before .before .before .before .pre .1 .0) (c .if3 .taken), c .before .before .before .before .before .pre .1 .1 .1 .1))
 
 item-variant-requires : (t : ℕ) → item-lts.Need-variant-requires (item-claims t) (item-at t) item.Post
-item-variant-requires t c κs = (omega (arith, start (c .before .before .before .before .before .before .pre .1 .0), c .before .before .before .before .before .before .pre .0), c .before .before .before .before .before .before .pre .1 .1 .1)
+item-variant-requires t c κs = (omega (arith, start (c .before .before .before .before .before .pre .1 .0), c .before .before .before .before .before .pre .0), c .before .before .before .before .before .pre .1 .1 .1 .1)
 
 item-enum-known-place : (t : ℕ) → item-lts.Need-enum-known-place (item-claims t) (item-at t) item.Post
 item-enum-known-place t c = search needs
 
-item-add-t31 : (t : ℕ) → item-lts.Need-add-t31 (item-claims t) (item-at t) item.Post
-item-add-t31 t c = omega (arith, start (c .before .before .before .before .before .before .before .before .before .before .pre .1 .0))
+item-add-t27 : (t : ℕ) → item-lts.Need-add-t27 (item-claims t) (item-at t) item.Post
+item-add-t27 t c = omega (arith, start (c .before .before .before .before .before .before .before .before .before .pre .1 .0))
 
 item-enum-known-refusal : (t : ℕ) → item-lts.Need-enum-known-refusal (item-claims t) (item-at t) item.Post
 item-enum-known-refusal t c = search needs
-
-item-base-requires : (t : ℕ) → item-lts.Need-base-requires (item-claims t) (item-at t) item.Post
-item-base-requires t c κs = (let i = is-base (c .before .before .before .before .before .before .pre .1 .0 .stands) (c .before .before .if1 .left) (c .before .before .before .before .before .before .pre .1 .1 .0) (c .before .if3 .left) (c .if4 .left) in (record { of = i .of; is = i .byte }, c .before .before .before .before .before .before .pre .1 .1 .1))
-
-item-enum-known-place-2 : (t : ℕ) → item-lts.Need-enum-known-place-2 (item-claims t) (item-at t) item.Post
-item-enum-known-place-2 t c = search needs
-
-item-add-t34 : (t : ℕ) → item-lts.Need-add-t34 (item-claims t) (item-at t) item.Post
-item-add-t34 t c = omega (arith, start (c .before .before .before .before .before .before .before .before .before .before .pre .1 .0))
-
-item-enum-known-refusal-2 : (t : ℕ) → item-lts.Need-enum-known-refusal-2 (item-claims t) (item-at t) item.Post
-item-enum-known-refusal-2 t c = search needs
 
 item-returns : (t : ℕ) → item-lts.Need-returns (item-claims t) (item-at t) item.Post
 item-returns t c = λ u e h. (let i = is-dict h (c .before .before .before .if1 .taken) (c .before .if2 .taken) in dict-read (c .before .before .before .before .before .before .before .args .order) (readVar (c .before .before .before .before .before .before .before .args .order) (c .before .before .before .before .before .before .before .args .levels)) (take (c .before .before .before .before .before .before .before .args .end) (c .before .before .before .before .before .before .before .args .buf .now)) (c .before .before .before .before .before .before .before .args .off) u inArray (i .key) (i .value) e _ (i .is) (c .dict .ensures (i .key) (i .value) e (i .stands)))
@@ -488,16 +476,10 @@ item-returns-3 : (t : ℕ) → item-lts.Need-returns-3 (item-claims t) (item-at 
 item-returns-3 t c = λ u e h. (let i = is-loose h (c .before .if3 .taken) in dict-read (c .before .before .before .before .before .before .args .order) (readVar (c .before .before .before .before .before .before .args .order) (c .before .before .before .before .before .before .args .levels)) (take (c .before .before .before .before .before .before .args .end) (c .before .before .before .before .before .before .args .buf .now)) (c .before .before .before .before .before .before .args .off) u loose (i .key) (i .value) e _ (i .is) (c .dict2 .ensures (i .key) (i .value) e (i .stands)))
 
 item-returns-4 : (t : ℕ) → item-lts.Need-returns-4 (item-claims t) (item-at t) item.Post
-item-returns-4 t c = λ u e h. (let i = is-variant h (c .before .before .before .before .if4 .taken) in variant-read (c .before .before .before .before .before .before .before .before .before .before .args .order) (readVar (c .before .before .before .before .before .before .before .before .before .before .args .order) (c .before .before .before .before .before .before .before .before .before .before .args .levels)) (take (c .before .before .before .before .before .before .before .before .before .before .args .end) (c .before .before .before .before .before .before .before .before .before .before .args .buf .now)) (c .before .before .before .before .before .before .before .before .before .before .args .off) u _ e _ (i .is) (i .ends) (sym (c .before .place .given .1) ∙ c .before .before .before .variant .ensures))
+item-returns-4 t c = λ u e h. (let i = is-variant h (fourth-composite (c .before .before .before .before .before .before .before .before .before .pre .1 .1 .0) (c .before .before .before .before .before .if1 .left) (c .before .before .before .before .before .before .before .before .before .pre .1 .1 .1 .0) (c .before .before .before .before .if3 .left)) in variant-read (c .before .before .before .before .before .before .before .before .before .args .order) (readVar (c .before .before .before .before .before .before .before .before .before .args .order) (c .before .before .before .before .before .before .before .before .before .args .levels)) (take (c .before .before .before .before .before .before .before .before .before .args .end) (c .before .before .before .before .before .before .before .before .before .args .buf .now)) (c .before .before .before .before .before .before .before .before .before .args .off) u _ e _ (i .is) (i .ends) (sym (c .before .place .given .1) ∙ c .before .before .before .variant .ensures))
 
 item-returns-5 : (t : ℕ) → item-lts.Need-returns-5 (item-claims t) (item-at t) item.Post
-item-returns-5 t c = λ u e h. (let i = is-variant h (c .before .before .before .before .if4 .taken) in variant-read (c .before .before .before .before .before .before .before .before .before .before .args .order) (readVar (c .before .before .before .before .before .before .before .before .before .before .args .order) (c .before .before .before .before .before .before .before .before .before .before .args .levels)) (take (c .before .before .before .before .before .before .before .before .before .before .args .end) (c .before .before .before .before .before .before .before .before .before .before .args .buf .now)) (c .before .before .before .before .before .before .before .before .before .before .args .off) u e e _ (i .is) refl (sym (c .before .refusal .given .1) ∙ c .before .before .before .variant .ensures))
-
-item-returns-6 : (t : ℕ) → item-lts.Need-returns-6 (item-claims t) (item-at t) item.Post
-item-returns-6 t c = λ u e h. (let i = is-base h (c .before .before .before .before .before .before .if1 .left) (c .before .before .before .before .before .before .before .before .before .before .pre .1 .1 .0) (c .before .before .before .before .before .if3 .left) (c .before .before .before .before .if4 .left) in base-read (c .before .before .before .before .before .before .before .before .before .before .args .order) (readVar (c .before .before .before .before .before .before .before .before .before .before .args .order) (c .before .before .before .before .before .before .before .before .before .before .args .levels)) (take (c .before .before .before .before .before .before .before .before .before .before .args .end) (c .before .before .before .before .before .before .before .before .before .before .args .buf .now)) (c .before .before .before .before .before .before .before .before .before .before .args .off) u (i .of) _ e _ (i .is) (i .ends) (sym (c .before .place2 .given .1) ∙ c .before .before .before .base .ensures (i .of) (i .byte)))
-
-item-returns-7 : (t : ℕ) → item-lts.Need-returns-7 (item-claims t) (item-at t) item.Post
-item-returns-7 t c = λ u e h. (let i = is-base h (c .before .before .before .before .before .before .if1 .left) (c .before .before .before .before .before .before .before .before .before .before .pre .1 .1 .0) (c .before .before .before .before .before .if3 .left) (c .before .before .before .before .if4 .left) in base-read (c .before .before .before .before .before .before .before .before .before .before .args .order) (readVar (c .before .before .before .before .before .before .before .before .before .before .args .order) (c .before .before .before .before .before .before .before .before .before .before .args .levels)) (take (c .before .before .before .before .before .before .before .before .before .before .args .end) (c .before .before .before .before .before .before .before .before .before .before .args .buf .now)) (c .before .before .before .before .before .before .before .before .before .before .args .off) u (i .of) e e _ (i .is) refl (sym (c .before .refusal2 .given .1) ∙ c .before .before .before .base .ensures (i .of) (i .byte)))
+item-returns-5 t c = λ u e h. (let i = is-variant h (fourth-composite (c .before .before .before .before .before .before .before .before .before .pre .1 .1 .0) (c .before .before .before .before .before .if1 .left) (c .before .before .before .before .before .before .before .before .before .pre .1 .1 .1 .0) (c .before .before .before .before .if3 .left)) in variant-read (c .before .before .before .before .before .before .before .before .before .args .order) (readVar (c .before .before .before .before .before .before .before .before .before .args .order) (c .before .before .before .before .before .before .before .before .before .args .levels)) (take (c .before .before .before .before .before .before .before .before .before .args .end) (c .before .before .before .before .before .before .before .before .before .args .buf .now)) (c .before .before .before .before .before .before .before .before .before .args .off) u e e _ (i .is) refl (sym (c .before .refusal .given .1) ∙ c .before .before .before .variant .ensures))
 
 abbrev value-Inv-loop : value-lts.InvT-loop
 value-Inv-loop order sig at buf end off levels i₀ o₀ depth₀ i o depth = (at ≤ i) × (off ≤ o) × (o ≤ end) × (depth ≤ i) × ((t : Ty) (e : ℕ) → TypeAt t sig at e → Left order levels sig (take end buf) e (walkedOf e (read order (readVar order levels) t (take end buf) off)) i o depth)
@@ -551,27 +533,55 @@ value-loop-less-2 t c = omega (arith, left-start (c .before .before .before .bef
 value-loop-again-2 : (t : ℕ) → value-lts.Need-loop-again-2 (value-claims t) (value-at t) value.Post value-Inv-loop value-μ-loop
 value-loop-again-2 t c = (omega (arith, c .before .before .before .before .loop .inv .0), c .before .before .before .before .loop .inv .1, c .before .before .before .before .loop .inv .2, omega (arith, c .before .before .before .before .loop .inv .3), λ u e h. inside (c .if3 .left) (left-close (c .before .before .before .before .before .before .before .args .order) (c .before .before .before .before .before .before .before .args .levels) (c .before .before .before .before .before .before .before .args .sig .now) (take (c .before .before .before .before .before .before .before .args .end) (c .before .before .before .before .before .before .before .args .buf .now)) e _ (c .before .before .before .before .loop .inv .4 u e h) (c .before .if2 .taken) .1))
 
+value-is-composite-requires : (t : ℕ) → value-lts.Need-is-composite-requires (value-claims t) (value-at t) value.Post value-Inv-loop value-μ-loop
+value-is-composite-requires t c κs = search needs
+
 value-item-requires : (t : ℕ) → value-lts.Need-item-requires (value-claims t) (value-at t) value.Post value-Inv-loop value-μ-loop
-value-item-requires t c κs = (omega (arith, c .before .before .before .before .before .before .pre .0, c .before .before .before .loop .inv .0, c .before .before .before .loop .inv .1, c .before .before .before .loop .inv .2), ((left-typed (c .before .before .before .before .before .before .args .order) (c .before .before .before .before .before .before .args .levels) (c .before .before .before .before .before .before .args .sig .now) (take (c .before .before .before .before .before .before .args .end) (c .before .before .before .before .before .before .args .buf .now)) _ _ (c .before .before .before .loop .inv .4 (c .before .before .before .before .before .before .pre .1 .0 .ty) (c .before .before .before .before .before .before .pre .1 .0 .next) (c .before .before .before .before .before .before .pre .1 .0 .stands)) (c .if2 .left)), (c .before .if1 .left, record { inside = c .before .before .before .loop .inv .2; held = c .before .before .before .before .before .before .pre .1 .1 .held })))
+value-item-requires t c κs = (omega (arith, c .before .before .before .before .before .before .before .before .pre .0, c .before .before .before .before .before .loop .inv .0, c .before .before .before .before .before .loop .inv .1, c .before .before .before .before .before .loop .inv .2), ((left-typed (c .before .before .before .before .before .before .before .before .args .order) (c .before .before .before .before .before .before .before .before .args .levels) (c .before .before .before .before .before .before .before .before .args .sig .now) (take (c .before .before .before .before .before .before .before .before .args .end) (c .before .before .before .before .before .before .before .before .args .buf .now)) _ _ (c .before .before .before .before .before .loop .inv .4 (c .before .before .before .before .before .before .before .before .pre .1 .0 .ty) (c .before .before .before .before .before .before .before .before .pre .1 .0 .next) (c .before .before .before .before .before .before .before .before .pre .1 .0 .stands)) (c .before .before .if2 .left)), (sym (c .before .is-composite .ensures) ∙ c .if4 .taken, (c .before .before .before .if1 .left, record { inside = c .before .before .before .before .before .loop .inv .2; held = c .before .before .before .before .before .before .before .before .pre .1 .1 .held }))))
 
 value-enum-known-n : (t : ℕ) → value-lts.Need-enum-known-n (value-claims t) (value-at t) value.Post value-Inv-loop value-μ-loop
 value-enum-known-n t c = search needs
 
 value-returns-3 : (t : ℕ) → value-lts.Need-returns-3 (value-claims t) (value-at t) value.Post value-Inv-loop value-μ-loop
-value-returns-3 t c = λ u e h. rest-done (c .before .before .before .before .before .before .before .before .before .before .before .args .order) (c .before .before .before .before .before .before .before .before .before .before .before .args .levels) (c .before .before .before .before .before .before .before .before .before .before .before .args .sig .now) (take (c .before .before .before .before .before .before .before .before .before .before .before .args .end) (c .before .before .before .before .before .before .before .before .before .before .before .args .buf .now)) e _ (left-past (c .before .before .before .before .before .before .before .before .before .before .before .args .order) (c .before .before .before .before .before .before .before .before .before .before .before .args .levels) (c .before .before .before .before .before .before .before .before .before .before .before .args .sig .now) (take (c .before .before .before .before .before .before .before .before .before .before .before .args .end) (c .before .before .before .before .before .before .before .before .before .before .before .args .buf .now)) e _ (c .before .before .before .before .before .before .before .before .loop .inv .4 u e h) (c .before .before .before .before .before .if2 .left) _ (c .before .before .before .before .item .ensures) _ _ (c .before .before .n .given .1) .1) (c .if4 .taken)
+value-returns-3 t c = λ u e h. rest-done (c .before .before .before .before .before .before .before .before .before .before .before .before .before .args .order) (c .before .before .before .before .before .before .before .before .before .before .before .before .before .args .levels) (c .before .before .before .before .before .before .before .before .before .before .before .before .before .args .sig .now) (take (c .before .before .before .before .before .before .before .before .before .before .before .before .before .args .end) (c .before .before .before .before .before .before .before .before .before .before .before .before .before .args .buf .now)) e _ (left-past (c .before .before .before .before .before .before .before .before .before .before .before .before .before .args .order) (c .before .before .before .before .before .before .before .before .before .before .before .before .before .args .levels) (c .before .before .before .before .before .before .before .before .before .before .before .before .before .args .sig .now) (take (c .before .before .before .before .before .before .before .before .before .before .before .before .before .args .end) (c .before .before .before .before .before .before .before .before .before .before .before .before .before .args .buf .now)) e _ (c .before .before .before .before .before .before .before .before .before .before .loop .inv .4 u e h) (c .before .before .before .before .before .before .before .if2 .left) _ (c .before .before .before .before .item .ensures) _ _ (c .before .before .n .given .1) .1) (c .if5 .taken)
 
 value-loop-less-3 : (t : ℕ) → value-lts.Need-loop-less-3 (value-claims t) (value-at t) value.Post value-Inv-loop value-μ-loop
-value-loop-less-3 t c = omega (arith, left-start (c .before .before .before .before .before .before .before .before .before .before .before .args .order) (c .before .before .before .before .before .before .before .before .before .before .before .args .levels) (c .before .before .before .before .before .before .before .before .before .before .before .args .sig .now) (take (c .before .before .before .before .before .before .before .before .before .before .before .args .end) (c .before .before .before .before .before .before .before .before .before .before .before .args .buf .now)) _ _ (c .before .before .before .before .before .before .before .before .loop .inv .4 (c .before .before .before .before .before .before .before .before .before .before .before .pre .1 .0 .ty) (c .before .before .before .before .before .before .before .before .before .before .before .pre .1 .0 .next) (c .before .before .before .before .before .before .before .before .before .before .before .pre .1 .0 .stands)), left-past (c .before .before .before .before .before .before .before .before .before .before .before .args .order) (c .before .before .before .before .before .before .before .before .before .before .before .args .levels) (c .before .before .before .before .before .before .before .before .before .before .before .args .sig .now) (take (c .before .before .before .before .before .before .before .before .before .before .before .args .end) (c .before .before .before .before .before .before .before .before .before .before .before .args .buf .now)) _ _ (c .before .before .before .before .before .before .before .before .loop .inv .4 (c .before .before .before .before .before .before .before .before .before .before .before .pre .1 .0 .ty) (c .before .before .before .before .before .before .before .before .before .before .before .pre .1 .0 .next) (c .before .before .before .before .before .before .before .before .before .before .before .pre .1 .0 .stands)) (c .before .before .before .before .before .if2 .left) _ (c .before .before .before .before .item .ensures) _ _ (c .before .before .n .given .1) .0)
+value-loop-less-3 t c = omega (arith, left-start (c .before .before .before .before .before .before .before .before .before .before .before .before .before .args .order) (c .before .before .before .before .before .before .before .before .before .before .before .before .before .args .levels) (c .before .before .before .before .before .before .before .before .before .before .before .before .before .args .sig .now) (take (c .before .before .before .before .before .before .before .before .before .before .before .before .before .args .end) (c .before .before .before .before .before .before .before .before .before .before .before .before .before .args .buf .now)) _ _ (c .before .before .before .before .before .before .before .before .before .before .loop .inv .4 (c .before .before .before .before .before .before .before .before .before .before .before .before .before .pre .1 .0 .ty) (c .before .before .before .before .before .before .before .before .before .before .before .before .before .pre .1 .0 .next) (c .before .before .before .before .before .before .before .before .before .before .before .before .before .pre .1 .0 .stands)), left-past (c .before .before .before .before .before .before .before .before .before .before .before .before .before .args .order) (c .before .before .before .before .before .before .before .before .before .before .before .before .before .args .levels) (c .before .before .before .before .before .before .before .before .before .before .before .before .before .args .sig .now) (take (c .before .before .before .before .before .before .before .before .before .before .before .before .before .args .end) (c .before .before .before .before .before .before .before .before .before .before .before .before .before .args .buf .now)) _ _ (c .before .before .before .before .before .before .before .before .before .before .loop .inv .4 (c .before .before .before .before .before .before .before .before .before .before .before .before .before .pre .1 .0 .ty) (c .before .before .before .before .before .before .before .before .before .before .before .before .before .pre .1 .0 .next) (c .before .before .before .before .before .before .before .before .before .before .before .before .before .pre .1 .0 .stands)) (c .before .before .before .before .before .before .before .if2 .left) _ (c .before .before .before .before .item .ensures) _ _ (c .before .before .n .given .1) .0)
 
 value-loop-again-3 : (t : ℕ) → value-lts.Need-loop-again-3 (value-claims t) (value-at t) value.Post value-Inv-loop value-μ-loop
-value-loop-again-3 t c = let m = value-moved (c .before .before .before .before .before .before .before .before .before .before .before .args .order) (c .before .before .before .before .before .before .before .before .before .before .before .args .levels) (c .before .before .before .before .before .before .before .before .before .before .before .args .sig .now) (c .before .before .before .before .before .before .before .before .before .before .before .args .buf .now) (c .before .before .before .before .before .before .before .before .before .before .before .args .end) (c .before .before .before .before .before .before .before .before .before .before .before .pre .1 .1 .held) _ _ _ _ _ (left-typed (c .before .before .before .before .before .before .before .before .before .before .before .args .order) (c .before .before .before .before .before .before .before .before .before .before .before .args .levels) (c .before .before .before .before .before .before .before .before .before .before .before .args .sig .now) (take (c .before .before .before .before .before .before .before .before .before .before .before .args .end) (c .before .before .before .before .before .before .before .before .before .before .before .args .buf .now)) _ _ (c .before .before .before .before .before .before .before .before .loop .inv .4 (c .before .before .before .before .before .before .before .before .before .before .before .pre .1 .0 .ty) (c .before .before .before .before .before .before .before .before .before .before .before .pre .1 .0 .next) (c .before .before .before .before .before .before .before .before .before .before .before .pre .1 .0 .stands)) (c .before .before .before .before .before .if2 .left)) (c .before .before .before .before .item .ensures) (c .before .before .before .before .before .before .before .before .loop .inv .2) (c .before .before .n .given .1) in let j = left-past (c .before .before .before .before .before .before .before .before .before .before .before .args .order) (c .before .before .before .before .before .before .before .before .before .before .before .args .levels) (c .before .before .before .before .before .before .before .before .before .before .before .args .sig .now) (take (c .before .before .before .before .before .before .before .before .before .before .before .args .end) (c .before .before .before .before .before .before .before .before .before .before .before .args .buf .now)) _ _ (c .before .before .before .before .before .before .before .before .loop .inv .4 (c .before .before .before .before .before .before .before .before .before .before .before .pre .1 .0 .ty) (c .before .before .before .before .before .before .before .before .before .before .before .pre .1 .0 .next) (c .before .before .before .before .before .before .before .before .before .before .before .pre .1 .0 .stands)) (c .before .before .before .before .before .if2 .left) _ (c .before .before .before .before .item .ensures) _ _ (c .before .before .n .given .1) .0 in
-    (omega (arith, c .before .before .before .before .before .before .before .before .loop .inv .0), omega (arith, m .0, c .before .before .before .before .before .before .before .before .loop .inv .1), m .1, omega (arith, c .before .before .before .before .before .before .before .before .loop .inv .3), λ u e h. inside (c .if4 .left) (left-past (c .before .before .before .before .before .before .before .before .before .before .before .args .order) (c .before .before .before .before .before .before .before .before .before .before .before .args .levels) (c .before .before .before .before .before .before .before .before .before .before .before .args .sig .now) (take (c .before .before .before .before .before .before .before .before .before .before .before .args .end) (c .before .before .before .before .before .before .before .before .before .before .before .args .buf .now)) e _ (c .before .before .before .before .before .before .before .before .loop .inv .4 u e h) (c .before .before .before .before .before .if2 .left) _ (c .before .before .before .before .item .ensures) _ _ (c .before .before .n .given .1) .1))
+value-loop-again-3 t c = let m = value-moved (c .before .before .before .before .before .before .before .before .before .before .before .before .before .args .order) (c .before .before .before .before .before .before .before .before .before .before .before .before .before .args .levels) (c .before .before .before .before .before .before .before .before .before .before .before .before .before .args .sig .now) (c .before .before .before .before .before .before .before .before .before .before .before .before .before .args .buf .now) (c .before .before .before .before .before .before .before .before .before .before .before .before .before .args .end) (c .before .before .before .before .before .before .before .before .before .before .before .before .before .pre .1 .1 .held) _ _ _ _ _ (left-typed (c .before .before .before .before .before .before .before .before .before .before .before .before .before .args .order) (c .before .before .before .before .before .before .before .before .before .before .before .before .before .args .levels) (c .before .before .before .before .before .before .before .before .before .before .before .before .before .args .sig .now) (take (c .before .before .before .before .before .before .before .before .before .before .before .before .before .args .end) (c .before .before .before .before .before .before .before .before .before .before .before .before .before .args .buf .now)) _ _ (c .before .before .before .before .before .before .before .before .before .before .loop .inv .4 (c .before .before .before .before .before .before .before .before .before .before .before .before .before .pre .1 .0 .ty) (c .before .before .before .before .before .before .before .before .before .before .before .before .before .pre .1 .0 .next) (c .before .before .before .before .before .before .before .before .before .before .before .before .before .pre .1 .0 .stands)) (c .before .before .before .before .before .before .before .if2 .left)) (c .before .before .before .before .item .ensures) (c .before .before .before .before .before .before .before .before .before .before .loop .inv .2) (c .before .before .n .given .1) in let j = left-past (c .before .before .before .before .before .before .before .before .before .before .before .before .before .args .order) (c .before .before .before .before .before .before .before .before .before .before .before .before .before .args .levels) (c .before .before .before .before .before .before .before .before .before .before .before .before .before .args .sig .now) (take (c .before .before .before .before .before .before .before .before .before .before .before .before .before .args .end) (c .before .before .before .before .before .before .before .before .before .before .before .before .before .args .buf .now)) _ _ (c .before .before .before .before .before .before .before .before .before .before .loop .inv .4 (c .before .before .before .before .before .before .before .before .before .before .before .before .before .pre .1 .0 .ty) (c .before .before .before .before .before .before .before .before .before .before .before .before .before .pre .1 .0 .next) (c .before .before .before .before .before .before .before .before .before .before .before .before .before .pre .1 .0 .stands)) (c .before .before .before .before .before .before .before .if2 .left) _ (c .before .before .before .before .item .ensures) _ _ (c .before .before .n .given .1) .0 in
+    (omega (arith, c .before .before .before .before .before .before .before .before .before .before .loop .inv .0), omega (arith, m .0, c .before .before .before .before .before .before .before .before .before .before .loop .inv .1), m .1, omega (arith, c .before .before .before .before .before .before .before .before .before .before .loop .inv .3), λ u e h. inside (c .if5 .left) (left-past (c .before .before .before .before .before .before .before .before .before .before .before .before .before .args .order) (c .before .before .before .before .before .before .before .before .before .before .before .before .before .args .levels) (c .before .before .before .before .before .before .before .before .before .before .before .before .before .args .sig .now) (take (c .before .before .before .before .before .before .before .before .before .before .before .before .before .args .end) (c .before .before .before .before .before .before .before .before .before .before .before .before .before .args .buf .now)) e _ (c .before .before .before .before .before .before .before .before .before .before .loop .inv .4 u e h) (c .before .before .before .before .before .before .before .if2 .left) _ (c .before .before .before .before .item .ensures) _ _ (c .before .before .n .given .1) .1))
 
 value-enum-known-refusal-2 : (t : ℕ) → value-lts.Need-enum-known-refusal-2 (value-claims t) (value-at t) value.Post value-Inv-loop value-μ-loop
 value-enum-known-refusal-2 t c = search needs
 
 value-returns-4 : (t : ℕ) → value-lts.Need-returns-4 (value-claims t) (value-at t) value.Post value-Inv-loop value-μ-loop
-value-returns-4 t c = λ u e h. left-stop (c .before .before .before .before .before .before .before .before .before .before .args .order) (c .before .before .before .before .before .before .before .before .before .before .args .levels) (c .before .before .before .before .before .before .before .before .before .before .args .sig .now) (take (c .before .before .before .before .before .before .before .before .before .before .args .end) (c .before .before .before .before .before .before .before .before .before .before .args .buf .now)) e _ (c .before .before .before .before .before .before .before .loop .inv .4 u e h) (c .before .before .before .before .if2 .left) _ (c .before .before .before .item .ensures) _ (c .before .refusal2 .given .1)
+value-returns-4 t c = λ u e h. left-stop (c .before .before .before .before .before .before .before .before .before .before .before .before .args .order) (c .before .before .before .before .before .before .before .before .before .before .before .before .args .levels) (c .before .before .before .before .before .before .before .before .before .before .before .before .args .sig .now) (take (c .before .before .before .before .before .before .before .before .before .before .before .before .args .end) (c .before .before .before .before .before .before .before .before .before .before .before .before .args .buf .now)) e _ (c .before .before .before .before .before .before .before .before .before .loop .inv .4 u e h) (c .before .before .before .before .before .before .if2 .left) _ (c .before .before .before .item .ensures) _ (c .before .refusal2 .given .1)
+
+value-base-requires : (t : ℕ) → value-lts.Need-base-requires (value-claims t) (value-at t) value.Post value-Inv-loop value-μ-loop
+value-base-requires t c κs = (let k = basic (sym (c .before .is-composite .ensures) ∙ c .if4 .left) in let i = is-base ((left-typed (c .before .before .before .before .before .before .before .before .args .order) (c .before .before .before .before .before .before .before .before .args .levels) (c .before .before .before .before .before .before .before .before .args .sig .now) (take (c .before .before .before .before .before .before .before .before .args .end) (c .before .before .before .before .before .before .before .before .args .buf .now)) _ _ (c .before .before .before .before .before .loop .inv .4 (c .before .before .before .before .before .before .before .before .pre .1 .0 .ty) (c .before .before .before .before .before .before .before .before .pre .1 .0 .next) (c .before .before .before .before .before .before .before .before .pre .1 .0 .stands)) (c .before .before .if2 .left)) .stands) (k .0) (k .1) (k .2) (k .3) in (record { of = i .of; is = i .byte }, record { inside = c .before .before .before .before .before .loop .inv .2; held = c .before .before .before .before .before .before .before .before .pre .1 .1 .held }))
+
+value-enum-known-place-2 : (t : ℕ) → value-lts.Need-enum-known-place-2 (value-claims t) (value-at t) value.Post value-Inv-loop value-μ-loop
+value-enum-known-place-2 t c = search needs
+
+value-add-i-3 : (t : ℕ) → value-lts.Need-add-i-3 (value-claims t) (value-at t) value.Post value-Inv-loop value-μ-loop
+value-add-i-3 t c = omega (arith, left-start (c .before .before .before .before .before .before .before .before .before .before .before .before .args .order) (c .before .before .before .before .before .before .before .before .before .before .before .before .args .levels) (c .before .before .before .before .before .before .before .before .before .before .before .before .args .sig .now) (take (c .before .before .before .before .before .before .before .before .before .before .before .before .args .end) (c .before .before .before .before .before .before .before .before .before .before .before .before .args .buf .now)) _ _ (c .before .before .before .before .before .before .before .before .before .loop .inv .4 (c .before .before .before .before .before .before .before .before .before .before .before .before .pre .1 .0 .ty) (c .before .before .before .before .before .before .before .before .before .before .before .before .pre .1 .0 .next) (c .before .before .before .before .before .before .before .before .before .before .before .before .pre .1 .0 .stands)))
+
+value-returns-5 : (t : ℕ) → value-lts.Need-returns-5 (value-claims t) (value-at t) value.Post value-Inv-loop value-μ-loop
+value-returns-5 t c = λ u e h. rest-done (c .before .before .before .before .before .before .before .before .before .before .before .before .before .args .order) (c .before .before .before .before .before .before .before .before .before .before .before .before .before .args .levels) (c .before .before .before .before .before .before .before .before .before .before .before .before .before .args .sig .now) (take (c .before .before .before .before .before .before .before .before .before .before .before .before .before .args .end) (c .before .before .before .before .before .before .before .before .before .before .before .before .before .args .buf .now)) e _ (left-past (c .before .before .before .before .before .before .before .before .before .before .before .before .before .args .order) (c .before .before .before .before .before .before .before .before .before .before .before .before .before .args .levels) (c .before .before .before .before .before .before .before .before .before .before .before .before .before .args .sig .now) (take (c .before .before .before .before .before .before .before .before .before .before .before .before .before .args .end) (c .before .before .before .before .before .before .before .before .before .before .before .before .before .args .buf .now)) e _ (c .before .before .before .before .before .before .before .before .before .before .loop .inv .4 u e h) (c .before .before .before .before .before .before .before .if2 .left) _ (λ v m z. (let k = basic (sym (c .before .before .before .before .before .before .is-composite .ensures) ∙ c .before .before .before .before .before .if4 .left) in let i = is-base z (k .0) (k .1) (k .2) (k .3) in base-read (c .before .before .before .before .before .before .before .before .before .before .before .before .before .args .order) (readVar (c .before .before .before .before .before .before .before .before .before .before .before .before .before .args .order) (c .before .before .before .before .before .before .before .before .before .before .before .before .before .args .levels)) (take (c .before .before .before .before .before .before .before .before .before .before .before .before .before .args .end) (c .before .before .before .before .before .before .before .before .before .before .before .before .before .args .buf .now)) (c .before .before .before .before .before .before .before .before .before .before .loop .o) v (i .of) (c .before .before .before .before .before .before .before .before .before .before .loop .i + 1) m _ (i .is) (i .ends) (sym (c .before .before .place2 .given .1) ∙ c .before .before .before .before .base .ensures (i .of) (i .byte)))) _ _ refl .1) (c .if6 .taken)
+
+value-loop-less-4 : (t : ℕ) → value-lts.Need-loop-less-4 (value-claims t) (value-at t) value.Post value-Inv-loop value-μ-loop
+value-loop-less-4 t c = omega (arith, left-start (c .before .before .before .before .before .before .before .before .before .before .before .before .before .args .order) (c .before .before .before .before .before .before .before .before .before .before .before .before .before .args .levels) (c .before .before .before .before .before .before .before .before .before .before .before .before .before .args .sig .now) (take (c .before .before .before .before .before .before .before .before .before .before .before .before .before .args .end) (c .before .before .before .before .before .before .before .before .before .before .before .before .before .args .buf .now)) _ _ (c .before .before .before .before .before .before .before .before .before .before .loop .inv .4 (c .before .before .before .before .before .before .before .before .before .before .before .before .before .pre .1 .0 .ty) (c .before .before .before .before .before .before .before .before .before .before .before .before .before .pre .1 .0 .next) (c .before .before .before .before .before .before .before .before .before .before .before .before .before .pre .1 .0 .stands)))
+
+value-loop-again-4 : (t : ℕ) → value-lts.Need-loop-again-4 (value-claims t) (value-at t) value.Post value-Inv-loop value-μ-loop
+value-loop-again-4 t c = let m = value-moved (c .before .before .before .before .before .before .before .before .before .before .before .before .before .args .order) (c .before .before .before .before .before .before .before .before .before .before .before .before .before .args .levels) (c .before .before .before .before .before .before .before .before .before .before .before .before .before .args .sig .now) (c .before .before .before .before .before .before .before .before .before .before .before .before .before .args .buf .now) (c .before .before .before .before .before .before .before .before .before .before .before .before .before .args .end) (c .before .before .before .before .before .before .before .before .before .before .before .before .before .pre .1 .1 .held) _ _ (c .before .before .before .before .before .before .before .before .before .before .loop .i + 1) (c .before .before .place2 .given .0 .0 .0) _ (left-typed (c .before .before .before .before .before .before .before .before .before .before .before .before .before .args .order) (c .before .before .before .before .before .before .before .before .before .before .before .before .before .args .levels) (c .before .before .before .before .before .before .before .before .before .before .before .before .before .args .sig .now) (take (c .before .before .before .before .before .before .before .before .before .before .before .before .before .args .end) (c .before .before .before .before .before .before .before .before .before .before .before .before .before .args .buf .now)) _ _ (c .before .before .before .before .before .before .before .before .before .before .loop .inv .4 (c .before .before .before .before .before .before .before .before .before .before .before .before .before .pre .1 .0 .ty) (c .before .before .before .before .before .before .before .before .before .before .before .before .before .pre .1 .0 .next) (c .before .before .before .before .before .before .before .before .before .before .before .before .before .pre .1 .0 .stands)) (c .before .before .before .before .before .before .before .if2 .left)) (λ v m z. (let k = basic (sym (c .before .before .before .before .before .before .is-composite .ensures) ∙ c .before .before .before .before .before .if4 .left) in let i = is-base z (k .0) (k .1) (k .2) (k .3) in base-read (c .before .before .before .before .before .before .before .before .before .before .before .before .before .args .order) (readVar (c .before .before .before .before .before .before .before .before .before .before .before .before .before .args .order) (c .before .before .before .before .before .before .before .before .before .before .before .before .before .args .levels)) (take (c .before .before .before .before .before .before .before .before .before .before .before .before .before .args .end) (c .before .before .before .before .before .before .before .before .before .before .before .before .before .args .buf .now)) (c .before .before .before .before .before .before .before .before .before .before .loop .o) v (i .of) (c .before .before .before .before .before .before .before .before .before .before .loop .i + 1) m _ (i .is) (i .ends) (sym (c .before .before .place2 .given .1) ∙ c .before .before .before .before .base .ensures (i .of) (i .byte)))) (c .before .before .before .before .before .before .before .before .before .before .loop .inv .2) refl in
+    (omega (arith, c .before .before .before .before .before .before .before .before .before .before .loop .inv .0), omega (arith, m .0, c .before .before .before .before .before .before .before .before .before .before .loop .inv .1), m .1, omega (arith, c .before .before .before .before .before .before .before .before .before .before .loop .inv .3), λ u e h. inside (c .if6 .left) (left-past (c .before .before .before .before .before .before .before .before .before .before .before .before .before .args .order) (c .before .before .before .before .before .before .before .before .before .before .before .before .before .args .levels) (c .before .before .before .before .before .before .before .before .before .before .before .before .before .args .sig .now) (take (c .before .before .before .before .before .before .before .before .before .before .before .before .before .args .end) (c .before .before .before .before .before .before .before .before .before .before .before .before .before .args .buf .now)) e _ (c .before .before .before .before .before .before .before .before .before .before .loop .inv .4 u e h) (c .before .before .before .before .before .before .before .if2 .left) _ (λ v m z. (let k = basic (sym (c .before .before .before .before .before .before .is-composite .ensures) ∙ c .before .before .before .before .before .if4 .left) in let i = is-base z (k .0) (k .1) (k .2) (k .3) in base-read (c .before .before .before .before .before .before .before .before .before .before .before .before .before .args .order) (readVar (c .before .before .before .before .before .before .before .before .before .before .before .before .before .args .order) (c .before .before .before .before .before .before .before .before .before .before .before .before .before .args .levels)) (take (c .before .before .before .before .before .before .before .before .before .before .before .before .before .args .end) (c .before .before .before .before .before .before .before .before .before .before .before .before .before .args .buf .now)) (c .before .before .before .before .before .before .before .before .before .before .loop .o) v (i .of) (c .before .before .before .before .before .before .before .before .before .before .loop .i + 1) m _ (i .is) (i .ends) (sym (c .before .before .place2 .given .1) ∙ c .before .before .before .before .base .ensures (i .of) (i .byte)))) _ _ refl .1))
+
+value-enum-known-refusal-3 : (t : ℕ) → value-lts.Need-enum-known-refusal-3 (value-claims t) (value-at t) value.Post value-Inv-loop value-μ-loop
+value-enum-known-refusal-3 t c = search needs
+
+value-returns-6 : (t : ℕ) → value-lts.Need-returns-6 (value-claims t) (value-at t) value.Post value-Inv-loop value-μ-loop
+value-returns-6 t c = λ u e h. left-stop (c .before .before .before .before .before .before .before .before .before .before .before .before .args .order) (c .before .before .before .before .before .before .before .before .before .before .before .before .args .levels) (c .before .before .before .before .before .before .before .before .before .before .before .before .args .sig .now) (take (c .before .before .before .before .before .before .before .before .before .before .before .before .args .end) (c .before .before .before .before .before .before .before .before .before .before .before .before .args .buf .now)) e _ (c .before .before .before .before .before .before .before .before .before .loop .inv .4 u e h) (c .before .before .before .before .before .before .if2 .left) _ (λ v m z. (let k = basic (sym (c .before .before .before .before .before .is-composite .ensures) ∙ c .before .before .before .before .if4 .left) in let i = is-base z (k .0) (k .1) (k .2) (k .3) in base-read (c .before .before .before .before .before .before .before .before .before .before .before .before .args .order) (readVar (c .before .before .before .before .before .before .before .before .before .before .before .before .args .order) (c .before .before .before .before .before .before .before .before .before .before .before .before .args .levels)) (take (c .before .before .before .before .before .before .before .before .before .before .before .before .args .end) (c .before .before .before .before .before .before .before .before .before .before .before .before .args .buf .now)) (c .before .before .before .before .before .before .before .before .before .loop .o) v (i .of) m m _ (i .is) refl (sym (c .before .refusal3 .given .1) ∙ c .before .before .before .base .ensures (i .of) (i .byte)))) _ refl
 
 variant-refuse-requires : (t : ℕ) → variant-lts.Need-refuse-requires (variant-claims t) (variant-at t) variant.Post
 variant-refuse-requires t c κs = search needs
@@ -760,8 +770,6 @@ pub +array+composites+dict+elements+entries+entry+item+value+variant-spec :
       array.Post,
       variant-below t,
       variant.Post,
-      base-reads.Asked,
-      base-reads.Learnt,
     )
     (item-at t)
     item.Post
@@ -776,21 +784,23 @@ pub +array+composites+dict+elements+entries+entry+item+value+variant-spec :
     (item-dict-requires-2 t)
     (item-variant-requires t)
     (item-enum-known-place t)
-    (item-add-t31 t)
+    (item-add-t27 t)
     (item-enum-known-refusal t)
-    (item-base-requires t)
-    (item-enum-known-place-2 t)
-    (item-add-t34 t)
-    (item-enum-known-refusal-2 t)
     (item-returns t)
     (item-returns-2 t)
     (item-returns-3 t)
     (item-returns-4 t)
-    (item-returns-5 t)
-    (item-returns-6 t)
-    (item-returns-7 t))
-    (λ t. value-lts.spec
-    (padded-reads.Asked, padded-reads.Learnt, item-below t, item.Post)
+    (item-returns-5 t))
+    (λ t. value-lts.spec (
+      padded-reads.Asked,
+      padded-reads.Learnt,
+      is-composite-reads.Asked,
+      is-composite-reads.Learnt,
+      item-below t,
+      item.Post,
+      base-reads.Asked,
+      base-reads.Learnt,
+    )
     (value-at t)
     value.Post
     value-Inv-loop
@@ -810,13 +820,22 @@ pub +array+composites+dict+elements+entries+entry+item+value+variant-spec :
     (value-returns-2 t)
     (value-loop-less-2 t)
     (value-loop-again-2 t)
+    (value-is-composite-requires t)
     (value-item-requires t)
     (value-enum-known-n t)
     (value-returns-3 t)
     (value-loop-less-3 t)
     (value-loop-again-3 t)
     (value-enum-known-refusal-2 t)
-    (value-returns-4 t))
+    (value-returns-4 t)
+    (value-base-requires t)
+    (value-enum-known-place-2 t)
+    (value-add-i-3 t)
+    (value-returns-5 t)
+    (value-loop-less-4 t)
+    (value-loop-again-4 t)
+    (value-enum-known-refusal-3 t)
+    (value-returns-6 t))
     λ t. variant-lts.spec (
       refuse-reads.Asked,
       refuse-reads.Learnt,
