@@ -8,3 +8,5 @@ pub mod BodyLaws
 pub mod TextLaws
 pub mod HeaderLaws
 pub mod NextLaws
+pub mod LookupLaws
+pub mod Answers

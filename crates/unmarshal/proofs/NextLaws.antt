@@ -59,6 +59,15 @@ part-ends n Absent l h = tt
 part-ends n (Number m) l h = tt
 part-ends n (Text p q) l h = omega arith
 
+-- the fields begin after the table's length
+pub each-at : (b : List ℕ) (o : Order) (fs : List Field) (e : ℕ) → At b 12 (table o fs 12) e → At b 16 (each (encField o) fs 16) e
+unfolding table
+each-at b o fs e h =
+    let n : ℕ = length (each (encField o) fs 16) in
+    let i = at-split b 12 (store o 4 n) (each (encField o) fs 16) e h in
+    let z : 12 + length (store o 4 n) ≡ 16 = ap (λ (k : ℕ). 12 + k) (length-store o 4 n) in
+    subst (λ (k : ℕ). At b k (each (encField o) fs 16) e) z (i .1)
+
 module _ (b : List ℕ) (start : Start) (fields : Fields) (end : ℕ) (h : Held b start fields end) where
   abbrev o : Order
   o = h .head .0 .order
@@ -84,12 +93,7 @@ module _ (b : List ℕ) (start : Start) (fields : Fields) (end : ℕ) (h : Held 
     sound = tableRs o .sound b y 12 (h .list) end first-bytes (h .tabled)
 
     fields-at : At b 16 (each (encField o) (h .list) 16) end
-    unfolding table
-    fields-at =
-        let n : ℕ = length (each (encField o) (h .list) 16) in
-        let i = at-split b 12 (store o 4 n) (each (encField o) (h .list) 16) end (sound .1) in
-        let z : 12 + length (store o 4 n) ≡ 16 = ap (λ (k : ℕ). 12 + k) (length-store o 4 n) in
-        subst (λ (k : ℕ). At b k (each (encField o) (h .list) 16) end) z (i .1)
+    fields-at = each-at b o (h .list) end (sound .1)
 
     abbrev spelled : (ts : List Ty) × (parse (bodySignature (h .list)) ≡ types ts)
     spelled = spelled-types o (h .list) 16 (sound .0 .0)

@@ -74,7 +74,7 @@ module _ (b : List ℕ) where
   one-field o d c (struct fs, v) off e h = (refl, tt)
   one-field o d c (variant, v) off e h = (refl, tt)
 
-  before-more : (x y : ℕ) (n : Entry) → x ≤ y → Before x n → Before y n
+  pub before-more : (x y : ℕ) (n : Entry) → x ≤ y → Before x n → Before y n
   before-more x y Absent h k = tt
   before-more x y (Number m) h k = tt
   before-more x y (Text p l) h k = omega arith

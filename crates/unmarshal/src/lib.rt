@@ -10,9 +10,9 @@ ghost use Rattle.meaning.specs.ReadValue.{baseR, read, readVar};
 ghost use Rattle.meaning.specs.Message.{exactly, wants};
 ghost use Rattle.meaning.specs.Signature.{code as codeOf, parse, types};
 ghost use Rattle.meaning.specs.ReadMessage.{isMark, orderOf, isKind, kindOf, andR, typeR, fixedR, fieldR, bodyR, checkMessage};
-ghost use Rattle.meaning.specs.Header.{readHeader};
+ghost use Rattle.meaning.specs.Header.{readHeader, lookup as lookupOf};
 ghost use Rattle.util.specs.Entry.{Window};
-ghost use Rattle.unmarshal.specs.Steps.{beganOf, OneIs, Known, knownTo, contentTo, fieldTo, firstOf, present, once, fieldsR, tableTo, Types, Ending, partOf, Held};
+ghost use Rattle.unmarshal.specs.Steps.{beganOf, OneIs, Known, knownTo, contentTo, fieldTo, firstOf, present, once, fieldsR, tableTo, Types, Ending, partOf, Held, textAt};
 use meaning::Checked;
 use meaning::Counted;
 use meaning::Entry;
@@ -448,5 +448,49 @@ pub fn check_message(buf: &[u8]) -> Checked
             Checked::Accepted(length)
         }
         HeaderRead::Refused(refusal) => Checked::Refused(refusal),
+    }
+}
+
+// The entry of a field that holds a text, by its code; none for any other code.
+fn text_entry(fields: Fields, code: u8) -> Entry
+    ensures { λ r. ⌜ r ≡ textAt code fields ⌝ }
+{
+    if code == 1 {
+        fields.object
+    } else if code == 2 {
+        fields.interface
+    } else if code == 3 {
+        fields.member
+    } else if code == 4 {
+        fields.error_name
+    } else if code == 6 {
+        fields.destination
+    } else if code == 7 {
+        fields.sender
+    } else if code == 8 {
+        fields.signature
+    } else {
+        Entry::Absent
+    }
+}
+
+// The text of a header field inside the message, or the fallback where there is none.
+pub fn lookup<'a>(message: &'a [u8], code: u8, fallback: &'a [u8]) -> &'a [u8]
+    ensures { λ r. ⌜ now r ≡ lookupOf (now (message .entry)) code (now (fallback .entry)) ⌝ }
+{
+    match unmarshal_header(message) {
+        HeaderRead::Read(header) => {
+            let fields = header.fields;
+            match text_entry(fields, code) {
+                Entry::Text(place, length) => {
+                    let first = place.0;
+                    let past = first + length.0;
+                    &message[first..past]
+                }
+                Entry::Number(_) => fallback,
+                Entry::Absent => fallback,
+            }
+        }
+        HeaderRead::Refused(_) => fallback,
     }
 }
