@@ -1,0 +1,101 @@
+-- The loop's invariant: what is left to spell leads to what all of it leads to.
+use native.Mathlib.Nat.{add-zero}
+use Prim.Native.Nat.{ℕ, _+_, _*_, _^_, _-_, _≤_, _<_}
+use native.Mathlib.Omega.{arith}
+use mathlib.Core.Path.{_≡_, refl, sym, ap, _∙_}
+use lib.ListN.{length, drop, length-set, drop-of-length-le, getD}
+use mathlib.Core.List.{[]}
+use lib.Seq.{sets}
+use Rattle.lines.specs.Digits.{hexText}
+use Rattle.lines.proofs.Laws.{text-turn}
+use borrow.Author.Needs.{needs}
+use Rattle.lines.proofs.pair.Statement.{statement}
+use Rattle.lines.proofs.pair.Tie as tie
+use Rattle.lines.proofs.pair.Reads as reads
+use Rattle.lines.proofs.pair.Lts as lts
+use Rattle.lines.proofs.glyph.Reads as glyph-reads
+
+abbrev Inv-loop : tie.InvT-loop
+Inv-loop out₀ at s i₀ out i = (i ≤ length s) × (length out ≡ length out₀) × (sets out (at + 2 * i) (hexText (drop i s)) ≡ sets out₀ at (hexText s))
+
+abbrev μ-loop : tie.MeasureT-loop
+μ-loop out₀ at s i₀ out i = length s - i
+
+loop-holds : tie.Need-loop-holds Inv-loop μ-loop
+loop-holds c =
+    let f : c .before .before .args .at + 2 * 0 ≡ c .before .before .args .at = omega arith in rw f (omega arith, refl, refl)
+
+shared-slice-read-b : tie.Need-shared-slice-read-b Inv-loop μ-loop
+shared-slice-read-b c = search needs
+
+glyph-requires : tie.Need-glyph-requires Inv-loop μ-loop
+glyph-requires c κs =
+    omega (arith, c .shared-slice-known2 .given (c .before .before .loop .i))
+
+mul-out : tie.Need-mul-out Inv-loop μ-loop
+mul-out c = search needs
+
+add-out : tie.Need-add-out Inv-loop μ-loop
+add-out c = search needs
+
+slice-write-out : tie.Need-slice-write-out Inv-loop μ-loop
+slice-write-out c = search needs
+
+glyph-requires-2 : tie.Need-glyph-requires-2 Inv-loop μ-loop
+glyph-requires-2 c κs = search needs
+
+mul-out-2 : tie.Need-mul-out-2 Inv-loop μ-loop
+mul-out-2 c = search needs
+
+add-out-2 : tie.Need-add-out-2 Inv-loop μ-loop
+add-out-2 c = search needs
+
+add-out-3 : tie.Need-add-out-3 Inv-loop μ-loop
+add-out-3 c = search needs
+
+slice-write-out-2 : tie.Need-slice-write-out-2 Inv-loop μ-loop
+slice-write-out-2 c =
+    simp length-set (omega arith)
+
+add-i : tie.Need-add-i Inv-loop μ-loop
+add-i c = search needs
+
+loop-less : tie.Need-loop-less Inv-loop μ-loop
+loop-less c = search needs
+
+loop-again : tie.Need-loop-again Inv-loop μ-loop
+loop-again c =
+    let a = c .before .before .before .before .before .before .before .args in let l = c .before .before .before .before .loop in
+    (omega arith, simp length-set (l .inv .1), rw (c .before .glyph .ensures, c .glyph2 .ensures) (text-turn (l .out) _ (a .s .now) (a .at) (l .i) (omega arith) (l .inv .2)))
+
+same-length : tie.Need-same-length Inv-loop μ-loop
+same-length c = c .before .loop .inv .1
+
+returns : tie.Need-returns Inv-loop μ-loop
+unfolding hexText
+returns c =
+    let a = c .before .before .before .before .args in let l = c .before .loop in
+    rw (drop-of-length-le (a .s .now) {i = l .i} (omega arith)) at (l .inv .2)
+
+pub pair-spec : {M : Type 1} → statement M
+pair-spec =
+    tie.close
+    (tie.spec
+    Inv-loop
+    μ-loop
+    loop-holds
+    shared-slice-read-b
+    glyph-requires
+    mul-out
+    add-out
+    slice-write-out
+    glyph-requires-2
+    mul-out-2
+    add-out-2
+    add-out-3
+    slice-write-out-2
+    add-i
+    loop-less
+    loop-again
+    same-length
+    returns)

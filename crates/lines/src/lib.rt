@@ -1,0 +1,229 @@
+// A line of text taken apart into words, numbers and bytes in hexadecimal, and answers put into a buffer that the caller lends.
+ghost use mathlib.Core.Path.{_≡_};
+ghost use mathlib.Core.Bool.{true, cond};
+ghost use Prim.Native.Nat.{ℕ, _+_, _*_, _^_, _≤_, _<_};
+ghost use lib.Dec.{ltb};
+ghost use lib.ListN.{length, drop, take};
+ghost use lib.Seq.{sets};
+ghost use Rattle.io.specs.Digits.{glyph as glyphOf, digits, Fewest};
+ghost use Rattle.lines.specs.Digits.{digitOf, allDigits, valueFrom, pairs, hexText, bytesText};
+ghost use Rattle.lines.specs.Words.{wordEnd, occurrences, numberOf, takenOf};
+ghost use Rattle.lines.specs.Puts.{putText};
+
+pub enum Number {
+    Is(u64),
+    Bad,
+}
+
+// How many bytes a word gives.
+pub enum Taken {
+    Bytes(usize),
+    Bad,
+}
+
+// The first word: up to the first space, or all.
+pub fn head(s: &[u8]) -> &[u8]
+    ensures { λ r. ⌜ now r ≡ take (wordEnd (now (s .entry))) (now (s .entry)) ⌝ }
+{
+    let end = bytes::scan::find(s, 0, s.len(), b' ');
+    &s[..end]
+}
+
+// What follows the first space.
+pub fn tail(s: &[u8]) -> &[u8]
+    ensures { λ r. ⌜ now r ≡ drop (wordEnd (now (s .entry)) + 1) (now (s .entry)) ⌝ }
+{
+    let end = bytes::scan::find(s, 0, s.len(), b' ');
+    if end < s.len() {
+        let next = end + 1;
+        &s[next..]
+    } else {
+        &s[end..]
+    }
+}
+
+// How many of the bytes are `b`.
+pub fn count(s: &[u8], b: u8) -> usize
+    ensures { λ r. ⌜ r ≡ occurrences b (now (s .entry)) ⌝ }
+{
+    let mut n = 0;
+    let mut i = 0;
+    while i < s.len() {
+        if s[i] == b {
+            n += 1;
+        }
+        i += 1;
+    }
+    n
+}
+
+// What a digit stands for, up to 15 for `f`; 16 for any other byte.
+fn digit(c: u8) -> u8
+    ensures { λ r. ⌜ r ≡ digitOf c ⌝ }
+{
+    if c < b'0' {
+        16
+    } else if c <= b'9' {
+        c - b'0'
+    } else if c < b'a' {
+        16
+    } else if c <= b'f' {
+        c - b'a' + 10
+    } else {
+        16
+    }
+}
+
+fn all_digits(base: u8, s: &[u8]) -> bool
+    ensures { λ r. ⌜ r ≡ allDigits base (now (s .entry)) ⌝ }
+{
+    let mut i = 0;
+    while i < s.len() {
+        if digit(s[i]) >= base {
+            return false;
+        }
+        i += 1;
+    }
+    true
+}
+
+// A decimal number of 64 bits.
+pub fn number_of(s: &[u8]) -> Number
+    ensures { λ r. ⌜ r ≡ numberOf (now (s .entry)) ⌝ }
+{
+    if s.len() == 0 {
+        return Number::Bad;
+    }
+    if all_digits(10, s) {
+        value(s)
+    } else {
+        Number::Bad
+    }
+}
+
+// The number that digits spell, if 64 bits hold it.
+fn value(s: &[u8]) -> Number
+    ensures { λ r. ⌜ r ≡ cond (ltb (valueFrom 0 (now (s .entry))) (2 ^ 64)) (Number.Is (valueFrom 0 (now (s .entry)))) Number.Bad ⌝ }
+{
+    let mut n: u64 = 0;
+    let mut i = 0;
+    while i < s.len() {
+        let d = digit(s[i]) as u64;
+        if (0xffff_ffff_ffff_ffff - d) / 10 < n {
+            return Number::Bad;
+        }
+        n = n * 10 + d;
+        i += 1;
+    }
+    Number::Is(n)
+}
+
+fn unpair(s: &[u8], out: &mut [u8], size: usize)
+    requires { ⌜ (2 * size ≡ length (now s)) × (size ≤ length (now out)) × (allDigits 16 (now s) ≡ true) ⌝ }
+    ensures { λ _. ⌜ now (out .exit) ≡ sets (now (out .entry)) 0 (pairs (now (s .entry))) ⌝ }
+{
+    let mut i = 0;
+    while i < size {
+        out[i] = digit(s[2 * i]) * 16 + digit(s[2 * i + 1]);
+        i += 1;
+    }
+}
+
+// The bytes that a word spells in hexadecimal, put at the front of `out`; `-` spells none.
+pub fn bytes_of(s: &[u8], out: &mut [u8]) -> Taken
+    ensures { λ r. ⌜ r ≡ takenOf (now (s .entry)) (now (out .entry)) .answer ⌝ }
+    ensures { λ r. ⌜ now (out .exit) ≡ takenOf (now (s .entry)) (now (out .entry)) .after ⌝ }
+{
+    if s.len() == 1 {
+        if s[0] == b'-' {
+            return Taken::Bytes(0);
+        }
+        return Taken::Bad;
+    }
+    if s.len() == 0 {
+        return Taken::Bad;
+    }
+    if s.len() % 2 != 0 {
+        return Taken::Bad;
+    }
+    let size = s.len() / 2;
+    if out.len() < size {
+        return Taken::Bad;
+    }
+    if all_digits(16, s) {
+        unpair(s, out, size);
+        return Taken::Bytes(size);
+    }
+    Taken::Bad
+}
+
+fn copy(out: &mut [u8], at: usize, s: &[u8])
+    requires { ⌜ at + length (now s) ≤ length (now out) ⌝ }
+    ensures { λ _. ⌜ now (out .exit) ≡ sets (now (out .entry)) at (now (s .entry)) ⌝ }
+{
+    let mut i = 0;
+    while i < s.len() {
+        out[at + i] = s[i];
+        i += 1;
+    }
+}
+
+// Puts a text at a place, and answers the place behind it.
+pub fn put(out: &mut [u8], at: usize, s: &[u8]) -> usize
+    ensures { λ r. ⌜ r ≡ putText (now (out .entry)) at (now (s .entry)) .place ⌝ }
+    ensures { λ r. ⌜ now (out .exit) ≡ putText (now (out .entry)) at (now (s .entry)) .after ⌝ }
+{
+    if at <= out.len() {
+        if s.len() <= out.len() - at {
+            copy(out, at, s);
+            return at + s.len();
+        }
+    }
+    at
+}
+
+// A number's decimal digits, the fewest that hold it.
+pub fn put_number(out: &mut [u8], at: usize, n: u64) -> usize
+    ensures { λ r. ⌜ ((k : ℕ) × Fewest 10 1 n k × (r ≡ putText (now (out .entry)) at (digits 10 k n) .place) × (now (out .exit) ≡ putText (now (out .entry)) at (digits 10 k n) .after)) ⌝ }
+{
+    let mut text = [0u8; 20];
+    let k = io::decimal(n, &mut text);
+    put(out, at, &text[..k])
+}
+
+fn glyph(d: u8) -> u8
+    requires { ⌜ d < 16 ⌝ }
+    ensures { λ r. ⌜ r ≡ glyphOf d ⌝ }
+{
+    if d < 10 { 48 + d } else { 87 + d }
+}
+
+fn pair(out: &mut [u8], at: usize, s: &[u8])
+    requires { ⌜ at + 2 * length (now s) ≤ length (now out) ⌝ }
+    ensures { λ _. ⌜ now (out .exit) ≡ sets (now (out .entry)) at (hexText (now (s .entry))) ⌝ }
+{
+    let mut i = 0;
+    while i < s.len() {
+        let b = s[i];
+        out[at + 2 * i] = glyph(b / 16);
+        out[at + 2 * i + 1] = glyph(b % 16);
+        i += 1;
+    }
+}
+
+// Bytes in hexadecimal; no bytes are `-`.
+pub fn put_bytes(out: &mut [u8], at: usize, s: &[u8]) -> usize
+    ensures { λ r. ⌜ r ≡ putText (now (out .entry)) at (bytesText (now (s .entry))) .place ⌝ }
+    ensures { λ r. ⌜ now (out .exit) ≡ putText (now (out .entry)) at (bytesText (now (s .entry))) .after ⌝ }
+{
+    if s.len() == 0 {
+        return put(out, at, b"-");
+    }
+    if at <= out.len() {
+        if s.len() <= (out.len() - at) / 2 {
+            pair(out, at, s);
+            return at + 2 * s.len();
+        }
+    }
+    at
+}
