@@ -1,11 +1,11 @@
 -- What the functions of the cycle answer, in the terms that their code has at hand: the buffer, where what is seen of it ends, and the answers of
 -- the functions that they called.
-use Prim.Native.Nat.{ℕ, zero, suc, _+_, _-_, _*_, _/_, _%_, _≤_, _<_}
+use Prim.Native.Nat.{ℕ, _+_, _-_, _%_, _≤_, _<_}
 use native.Mathlib.Omega.{arith}
 use mathlib.Core.Bool.{Bool, true, false}
-use mathlib.Core.List.{List, [], _∷_}
+use mathlib.Core.List.{List}
 use mathlib.Core.Path.{_≡_, refl, ap, sym, subst, _∙_}
-use lib.ListN.{length, take, drop, getD}
+use lib.ListN.{length, take, getD}
 use lib.Seq.{length-take-le, take-take}
 use lib.Dec.{T, eqb, eqb→eq}
 use borrow.Author.Tests.{eq-eqb}
@@ -13,15 +13,14 @@ use Rattle.meaning.specs.declared.Order.{Order}
 use Rattle.meaning.specs.declared.Refusal.{Refusal}
 use Rattle.meaning.specs.declared.Place.{Place}
 use Rattle.meaning.specs.declared.Fault.the-variants.{NotEnoughBytes}
-use Rattle.meaning.specs.declared.Reached.{Reached}
 use Rattle.meaning.specs.declared.Reached.the-variants.{At, Refused}
 use Rattle.meaning.specs.Faults.{refusal}
-use Rattle.meaning.specs.Types.{Fix, Base, fix, Ty, base, arr, dict, struct, variant, Of, Var, size, align, whole}
+use Rattle.meaning.specs.Types.{Fix, Base, fix, Ty, base, arr, size, align, whole}
 use Rattle.meaning.specs.Signature.{spell}
 use Rattle.meaning.specs.Places.{TypeAt, Typed}
-use Rattle.meaning.specs.Reader.{Res, got, fault, R, _>>=_, _>>_, many, reachedOf}
+use Rattle.meaning.specs.Reader.{Res, R, many, reachedOf}
 use Rattle.meaning.proofs.ValueMeets.{ne-size}
-use Rattle.meaning.specs.ReadValue.{valid, padding, baseR, elements, arrayR, pairR, read, readVar}
+use Rattle.meaning.specs.ReadValue.{valid, padding, baseR, arrayR, pairR, read, readVar}
 use Rattle.meaning.proofs.Local.{Local, bind-got, bind-fault, many-end, both}
 use Rattle.meaning.proofs.ValueLocal.{read-local, readVar-local}
 use Rattle.meaning.proofs.Grows.{Grows, read-grows, var-grows, entry-local, entry-grows}
@@ -34,7 +33,7 @@ use Rattle.validate_raw.specs.declared.Walked.the-variants.{Past, Refuse
 use Rattle.validate_raw.specs.declared.Opened.{Opened}
 use Rattle.validate_raw.specs.declared.Opened.the-variants.{Inside, Shut}
 use Rattle.validate_raw.specs.Walk.{walkedOf, walkedTo, headR, openedOf, entryR, wholeCode}
-use Rattle.validate_raw.proofs.ArrayLaws.{Contents, inside-inv, inside-after}
+use Rattle.validate_raw.proofs.ArrayLaws.{inside-inv, inside-after}
 use Rattle.validate_raw.proofs.ElementLaws.{element-align, Tested, singly, together, tested}
 use Rattle.validate_raw.proofs.WalkLaws.{walked-to, past-inv, stopped-inv, pair-got, pair-fault, shut-read, elements-read, ragged-read, plain-read}
 use Rattle.validate_raw.proofs.LoopLaws.{moved, turned, refused, ended}

@@ -1,18 +1,17 @@
 -- What the first byte of an element's type says of an array: the elements' alignment, and whether their number is all that is tested.
-use Prim.Native.Nat.{ℕ, zero, suc, _+_, _<_}
-use native.Mathlib.Omega.{arith}
+use Prim.Native.Nat.{ℕ}
 use mathlib.Core.Bool.{Bool, true, false, _||_}
 use mathlib.Core.List.{List, [], _∷_, _++_}
 use mathlib.Core.Path.{_≡_, refl, ap, sym, subst, _∙_}
-use lib.ListN.{length, getD}
+use lib.ListN.{getD}
 use lib.Dec.{eqb, T}
 use borrow.Author.Tests.{eq-eqb, ne-eqb, eqb-true}
-use Rattle.meaning.specs.Types.{Fix, byte, bool, i16, u16, i32, u32, i64, u64, dbl, fd, Base, fix, str, path, sig, Form, inArray, loose, Ty, base, arr, dict, struct, variant, Tys, size, align, whole}
-use Rattle.meaning.specs.Signature.{code, spell, notLoose, find, opening}
+use Rattle.meaning.specs.Types.{Fix, byte, bool, i16, u16, i32, u32, i64, u64, dbl, fd, fix, str, path, sig, inArray, loose, Ty, base, arr, dict, struct, variant, size, align, whole}
+use Rattle.meaning.specs.Signature.{code, spell, notLoose, find}
 use Rattle.meaning.specs.Writers.{isAlignment}
 use Rattle.meaning.specs.ReadValue.{valid}
-use Rattle.meaning.specs.Places.{Spelled, TypeAt, Typed}
-use Rattle.meaning.proofs.PlaceLaws.{Head, spelled-head}
+use Rattle.meaning.specs.Places.{Spelled, TypeAt}
+use Rattle.meaning.proofs.PlaceLaws.{spelled-head}
 use Rattle.types.specs.Codes.{alignCode, sizeCode}
 use Rattle.types.proofs.CodeLaws.{align-first, is-alignment}
 use Rattle.validate_raw.specs.Walk.{wholeCode, composite}

@@ -2,29 +2,25 @@
 use Prim.Native.Nat.{ℕ, zero, suc, _+_, _-_, _*_, _/_, _%_, _≤_, _<_}
 use native.Mathlib.Omega.{arith}
 use native.Mathlib.Nat.{div-add-mod', div-le-self, zero-mod}
-use mathlib.Core.Bool.{Bool, true, false}
-use mathlib.Core.List.{List, [], _∷_}
+use mathlib.Core.List.{List}
 use mathlib.Core.Path.{_≡_, refl, ap, sym, subst, _∙_}
-use lib.ListN.{length, take, drop, getD}
-use lib.Dec.{leb, eqb, T}
+use lib.ListN.{length, take, drop}
+use lib.Dec.{T}
 use lib.Seq.{length-take-le}
 use Rattle.meaning.specs.declared.Order.{Order}
 use Rattle.meaning.specs.declared.Refusal.{Refusal}
-use Rattle.meaning.specs.declared.Place.{Place}
 use Rattle.meaning.specs.declared.Fault.the-variants.{NotEnoughBytes, VariantTooDeep}
 use Rattle.meaning.specs.declared.Reached.{Reached}
 use Rattle.meaning.specs.declared.Reached.the-variants.{At, Refused}
 use Rattle.meaning.specs.Faults.{refusal}
-use Rattle.meaning.specs.Types.{Fix, Base, fix, Form, inArray, loose, Ty, base, arr, dict, variant, Of, Var, size, align, whole}
+use Rattle.meaning.specs.Types.{Fix, Base, fix, Form, Ty, base, arr, dict, variant, Var, size}
 use Rattle.meaning.specs.Places.{TypeAt, Typed}
-use Rattle.meaning.specs.Signature.{parse}
 use Rattle.meaning.specs.Number.{gap}
-use Rattle.meaning.specs.Reader.{Res, got, fault, stop, R, ret, here, fail, _>>=_, _>>_, many, reachedOf}
-use Rattle.meaning.specs.ReadValue.{valid, padding, readSig, accept, single, baseR, elements, arrayR, pairR, read, readVar}
-use Rattle.meaning.proofs.Local.{bind-got, bind-fault, bind-inv, ret-inv, refuse-alike, Ran, ran, stopped, bind-is, many-end, fault-inj}
-use Rattle.meaning.proofs.Meets.{At as Stands, here-bind, padding-sound, length-pad}
+use Rattle.meaning.specs.Reader.{Res, got, fault, R, ret, fail, _>>=_, many, reachedOf}
+use Rattle.meaning.specs.ReadValue.{valid, single, baseR, arrayR, pairR, read, readVar}
+use Rattle.meaning.proofs.Local.{bind-got, bind-fault, bind-inv, Ran, ran, stopped, bind-is, many-end, fault-inj}
+use Rattle.meaning.proofs.Meets.{here-bind, padding-sound, length-pad}
 use Rattle.meaning.proofs.ValueMeets.{gap-al}
-use Rattle.meaning.proofs.Loop.{at-inv, refused-inv}
 use Rattle.meaning.proofs.Plain.{plain}
 use Rattle.validate_raw.specs.declared.Walked.{Walked}
 use Rattle.validate_raw.specs.declared.Walked.the-variants.{Past, Refused as Stopped}
@@ -32,7 +28,7 @@ use Rattle.validate_raw.specs.declared.Opened.{Opened}
 use Rattle.validate_raw.specs.declared.Opened.the-variants.{Inside, Shut}
 use Rattle.validate_raw.specs.Walk.{spelledR, walkedOf, walkedTo, headR, openedOf, entryR, variantTypeR, InnerIs}
 use Rattle.validate_raw.proofs.SpellLaws.{spelled-then, spelled-fault}
-use Rattle.validate_raw.proofs.ArrayLaws.{Head, head-inv, Contents, inside-inv, array-inside, array-shut, elements-whole, elements-ragged}
+use Rattle.validate_raw.proofs.ArrayLaws.{head-inv, inside-inv, array-inside, array-shut, elements-whole, elements-ragged}
 
 -- a walk's answer is where its reader gets to
 pub walked-to : {A : Type 0} (n : ℕ) (x : Res A) → walkedTo n (reachedOf x) ≡ walkedOf n x

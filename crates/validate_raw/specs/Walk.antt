@@ -1,23 +1,22 @@
 -- What the functions of the walk answer, in terms of the readers of the meaning crate. A walk that only checks hands on places: past the type in
 -- the signature, and past the value in the bytes.
-use Prim.Native.Nat.{ℕ, zero, suc, _+_, _-_, _≤_, _<_}
+use Prim.Native.Nat.{ℕ, _+_, _-_, _≤_, _<_}
 use mathlib.Core.Bool.{Bool, true, false, _||_}
-use mathlib.Core.List.{List, [], _∷_}
+use mathlib.Core.List.{List}
 use mathlib.Core.Path.{_≡_}
 use lib.ListN.{length, take, drop, getD}
 use lib.Dec.{leb, eqb, T}
 use Rattle.types.specs.Codes.{sizeCode}
 use Rattle.meaning.specs.Text.{pick}
 use Rattle.meaning.specs.declared.Order.{Order}
-use Rattle.meaning.specs.declared.Refusal.{Refusal}
 use Rattle.meaning.specs.declared.Fault.the-variants.{NotEnoughBytesForCollection}
 use Rattle.meaning.specs.declared.Reached.{Reached}
 use Rattle.meaning.specs.declared.Reached.the-variants.{At, Refused}
 use Rattle.meaning.specs.Faults.{refusal}
-use Rattle.meaning.specs.Types.{Fix, Base, Ty, Raw, Of, Var}
+use Rattle.meaning.specs.Types.{Fix, Base, Ty, Raw, Of}
 use Rattle.meaning.specs.Signature.{code, parse}
-use Rattle.meaning.specs.Reader.{Res, got, fault, R, ret, here, _>>=_, _>>_, ahead, reachedOf}
-use Rattle.meaning.specs.ReadValue.{valid, padding, readSig, accept, single, lengthR, baseR, pairR, read, readVar}
+use Rattle.meaning.specs.Reader.{Res, got, fault, R, ret, here, _>>=_, _>>_, ahead}
+use Rattle.meaning.specs.ReadValue.{valid, padding, readSig, accept, single, lengthR, baseR, pairR, read}
 use Rattle.meaning.specs.Places.{TypeAt, Typed}
 use Rattle.validate_raw.specs.declared.Walked.{Walked}
 use Rattle.validate_raw.specs.declared.Walked.the-variants.{Past, Refused as Stopped}

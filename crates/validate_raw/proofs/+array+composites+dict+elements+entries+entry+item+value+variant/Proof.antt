@@ -1,26 +1,24 @@
 -- The proof of the cycle of calls. The measure: four times the sum of the variant levels, of what is left of the signature and of the bytes left,
 -- and an order of the functions at one place. A variant's signature is taken out of the bytes left, so the sum falls there too.
-use Prim.Native.Nat.{ℕ, _<_, _+_, _-_, _*_, _%_, _≤_}
+use Prim.Native.Nat.{ℕ, _<_, _+_, _-_, _*_, _≤_}
 use native.Mathlib.Omega.{arith}
 use borrow.Author.Needs.{needs}
-use mathlib.Core.List.{List, []}
+use mathlib.Core.List.{List}
 use mathlib.Core.Path.{_≡_, refl, ap, sym, subst, _∙_}
-use lib.ListN.{length, take, drop, getD, length-take}
-use lib.Seq.{length-take-le}
+use lib.ListN.{length, take, drop, length-take}
 use lib.Dec.{T}
 use native.Mathlib.Nat.{pos-of-ne-zero}
 use Rattle.meaning.specs.declared.Order.the-variants.{Little}
-use Rattle.meaning.specs.Types.{Base, Ty, Form, inArray, loose}
+use Rattle.meaning.specs.Types.{Base, Ty, inArray, loose}
 use Rattle.meaning.specs.Places.{TypeAt, EntryAt}
 use Rattle.meaning.specs.Reader.{reachedOf}
 use Rattle.meaning.specs.ReadValue.{baseR, read, readVar}
 use Rattle.meaning.specs.Writers.{isAlignment}
 use Rattle.meaning.proofs.PlaceLaws.{start, start-entry, go-array, go-dict, go-loose, go-value, is-base, is-variant, is-array, is-dict, is-loose, in-entry}
 use Rattle.meaning.proofs.Loop.{Onward}
-use Rattle.types.specs.Codes.{alignCode}
 use Rattle.util.proofs.Windows.{reached-within}
 use Rattle.meaning.proofs.ValueLocal.{baseR-local}
-use Rattle.validate_raw.specs.Walk.{walkedOf, entryR, InnerIs}
+use Rattle.validate_raw.specs.Walk.{walkedOf, entryR}
 use Rattle.validate_raw.proofs.OpenLaws.{padded-within}
 use Rattle.validate_raw.proofs.ElementLaws.{element-alignment, basic, fourth-composite}
 use Rattle.validate_raw.proofs.LoopLaws.{began}
