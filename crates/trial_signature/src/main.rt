@@ -1,6 +1,7 @@
 // Runs the signature check: every signature of up to four characters from `a(){}bysvz`, then each line of the input: document 01's own
 // cases; arrays, structs and dicts 31 and 32 deep, alone and mixed; deep ones with a fault; and 255 and 256 bytes.
 // The expected numbers were made by an independent model of document 01's grammar, a recursive reading of the text.
+use cases::line_end;
 use libc::STDIN_FILENO;
 use libc::STDOUT_FILENO;
 use meaning::Counted;
@@ -105,21 +106,6 @@ fn tallies(length: usize, all: usize)
         tally(length, all, REFUSED + n);
         n += 1;
     }
-}
-
-// Where the line ends that begins at `from`.
-fn line_end(text: &[u8], from: usize) -> usize
-    requires { ⌜ from ≤ length (now text) ⌝ }
-    ensures { λ r. ⌜ (from ≤ r) × (r ≤ length (now (text .entry))) ⌝ }
-{
-    let mut i = from;
-    while i < text.len() {
-        if text[i] == b'\n' {
-            return i;
-        }
-        i += 1;
-    }
-    i
 }
 
 // The answer to the bytes from `from` to `end`.

@@ -2,36 +2,19 @@
 // A case is a letter and bytes in hex. t: a text; p: a path; i, s, o, g: an offset, and a buffer of integers (16, 32 and 64 bits), a string,
 // an object path, a signature's text; a: an alignment, an offset, a buffer with padding; w: an end, an offset and a buffer, for the readers that
 // see nothing from the end on (string, path, signature, padding to 8). Where there is an order, little comes first. A line with # is a title.
-ghost use Prim.Native.Nat.{_≤_};
-ghost use lib.ListN.{length};
-ghost use Rattle.io.specs.Counts.{Counts};
+use cases::bytes_of;
+use cases::line_end;
+use cases::put;
+use cases::put_number;
+use cases::put_refusal;
 use libc::STDIN_FILENO;
-use libc::STDOUT_FILENO;
 use meaning::Checked;
 use meaning::Integer;
 use meaning::Length;
 use meaning::Order;
 use meaning::Place;
 use meaning::Reached;
-use meaning::Refusal;
 use text::Text;
-
-fn put(s: &[u8]) {
-    io::write_all(STDOUT_FILENO, s);
-}
-
-fn put_number(n: u64) {
-    io::print_decimal(STDOUT_FILENO, n);
-}
-
-fn put_refusal(r: Refusal) {
-    let fault = r.fault;
-    let place = r.place;
-    put(b" no ");
-    put_number(meaning::number(fault) as u64);
-    put(b" at ");
-    put_number(place.0 as u64);
-}
 
 fn put_checked(c: Checked) {
     match c {
@@ -160,42 +143,6 @@ fn run(kind: u8, s: &[u8]) {
     of_one(kind, wide(s[0]), &s[1..]);
 }
 
-// A hexadecimal digit.
-fn digit(c: u8) -> u8
-    ensures { λ r. ⌜ r ≤ 15 ⌝ }
-{
-    if c < b'0' {
-        0
-    } else if c <= b'9' {
-        c - b'0'
-    } else if c < b'a' {
-        0
-    } else if c <= b'f' {
-        c - b'a' + 10
-    } else {
-        0
-    }
-}
-
-// The bytes of a line: each is a space and two digits, after the letter. At most as many as `out` holds.
-fn bytes_of(line: &[u8], out: &mut [u8]) -> usize
-    requires { ⌜ 1 ≤ length (now line) ⌝ }
-    ensures { λ r. ⌜ Counts r (now (out .exit)) ⌝ }
-{
-    let count = (line.len() - 1) / 3;
-    let mut k = 0;
-    while k < count {
-        if k == out.len() {
-            return k;
-        }
-        let high = digit(line[3 * k + 2]);
-        let low = digit(line[3 * k + 3]);
-        out[k] = high * 16 + low;
-        k += 1;
-    }
-    k
-}
-
 fn case(line: &[u8]) {
     put(line);
     if line.len() == 0 {
@@ -209,21 +156,6 @@ fn case(line: &[u8]) {
     let n = bytes_of(line, &mut out);
     put(b":");
     run(kind, &out[..n]);
-}
-
-// Where the line that starts at `from` ends.
-fn line_end(s: &[u8], from: usize) -> usize
-    requires { ⌜ from ≤ length (now s) ⌝ }
-    ensures { λ r. ⌜ (from ≤ r) × (r ≤ length (now (s .entry))) ⌝ }
-{
-    let mut i = from;
-    while i < s.len() {
-        if s[i] == b'\n' {
-            return i;
-        }
-        i += 1;
-    }
-    i
 }
 
 fn lines(s: &[u8]) {

@@ -4,8 +4,8 @@ use mathlib.Core.Path.{_≡_, sym}
 use lib.Seq.{length-take-le}
 use lib.ListN.{length, length-set}
 use borrow.Author.Needs.{needs}
-use Rattle.trial_text.proofs.bytes_of.Statement.{statement}
-use Rattle.trial_text.proofs.bytes_of.Tie as tie
+use Rattle.cases.proofs.bytes_of.Statement.{statement}
+use Rattle.cases.proofs.bytes_of.Tie as tie
 
 abbrev Inv-loop : tie.InvT-loop
 Inv-loop line out₀ count k₀ out k = (k ≤ count) × (k ≤ length out) × (3 * count < length line) × (length out ≡ length out₀)
