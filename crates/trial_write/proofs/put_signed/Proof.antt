@@ -1,4 +1,4 @@
--- The laws of Signs.antt answer for the three casts.
+-- The laws of Signs.antt answer for the casts.
 use Rattle.trial_write.proofs.Signs.{back, under, shown, itself}
 use borrow.Author.Needs.{needs}
 use Rattle.trial_write.proofs.put_signed.Statement.{statement}
