@@ -7,51 +7,31 @@ use meaning::Order;
 use meaning::Place;
 use meaning::Written;
 
-enum Kind {
-    Value,
-    Fixed,
-    Signature,
+// Questions with a number before their buffer.
+enum Numbered {
     Pad,
     Write16,
     Write32,
     Write64,
+}
+
+// Questions with bytes before their buffer: a signature, or a text to write.
+enum Worded {
+    Value,
+    Fixed,
     WriteString,
     WriteSignature,
+}
+
+enum Kind {
+    Number(Numbered),
+    Bytes(Worded),
     Unknown,
 }
 
-pub fn bad(out: &mut [u8], at: usize) -> usize {
-    lines::put(out, at, b"bad")
-}
-
-fn kind_of(word: &[u8]) -> Kind {
-    if check::same(word, b"value") {
-        Kind::Value
-    } else if check::same(word, b"fixed") {
-        Kind::Fixed
-    } else if check::same(word, b"sig") {
-        Kind::Signature
-    } else {
-        writer(word)
-    }
-}
-
-fn writer(word: &[u8]) -> Kind {
-    if check::same(word, b"pad") {
-        Kind::Pad
-    } else if check::same(word, b"w16") {
-        Kind::Write16
-    } else if check::same(word, b"w32") {
-        Kind::Write32
-    } else if check::same(word, b"w64") {
-        Kind::Write64
-    } else if check::same(word, b"wstr") {
-        Kind::WriteString
-    } else if check::same(word, b"wsig") {
-        Kind::WriteSignature
-    } else {
-        Kind::Unknown
-    }
+enum Given {
+    Is(Order),
+    Bad,
 }
 
 // What a question to write a number comes to: a number that the width does not hold is no question.
@@ -60,30 +40,81 @@ enum Wrote {
     Bad,
 }
 
-fn write_number(kind: Kind, order: Order, place: Place, n: u64, buf: &mut [u8]) -> Wrote {
-    match kind {
-        Kind::Pad => Wrote::Answer(write::pad_to_align(Length(n as usize), buf, place)),
-        Kind::Write16 => {
-            if n < 0x1_0000 {
-                Wrote::Answer(write::write_u16(n as u16, order, buf, place))
-            } else {
-                Wrote::Bad
-            }
-        }
-        Kind::Write32 => {
-            if n < 0x1_0000_0000 {
-                Wrote::Answer(write::write_u32(n as u32, order, buf, place))
-            } else {
-                Wrote::Bad
-            }
-        }
-        _ => Wrote::Answer(write::write_u64(n, order, buf, place)),
+pub fn bad(out: &mut [u8], at: usize) -> usize {
+    lines::put(out, at, b"bad")
+}
+
+// The questions that name a byte order.
+fn kind_of(word: &[u8]) -> Kind {
+    if check::same(word, b"value") {
+        Kind::Bytes(Worded::Value)
+    } else if check::same(word, b"fixed") {
+        Kind::Bytes(Worded::Fixed)
+    } else if check::same(word, b"wstr") {
+        Kind::Bytes(Worded::WriteString)
+    } else {
+        width_of(word)
     }
 }
 
-// A question with a number before its buffer.
+fn width_of(word: &[u8]) -> Kind {
+    if check::same(word, b"w16") {
+        Kind::Number(Numbered::Write16)
+    } else if check::same(word, b"w32") {
+        Kind::Number(Numbered::Write32)
+    } else if check::same(word, b"w64") {
+        Kind::Number(Numbered::Write64)
+    } else {
+        Kind::Unknown
+    }
+}
+
+fn order_of(word: &[u8]) -> Given {
+    if check::same(word, b"l") {
+        Given::Is(Order::Little)
+    } else if check::same(word, b"B") {
+        Given::Is(Order::Big)
+    } else {
+        Given::Bad
+    }
+}
+
+// The place that the first of three words gives.
+fn place_of(words: &[u8]) -> Number {
+    if lines::count(words, b' ') == 2 {
+        lines::number_of(lines::head(words))
+    } else {
+        Number::Bad
+    }
+}
+
+fn write_16(n: u64, order: Order, buf: &mut [u8], place: Place) -> Wrote {
+    if n < 0x1_0000 {
+        Wrote::Answer(write::write_u16(n as u16, order, buf, place))
+    } else {
+        Wrote::Bad
+    }
+}
+
+fn write_32(n: u64, order: Order, buf: &mut [u8], place: Place) -> Wrote {
+    if n < 0x1_0000_0000 {
+        Wrote::Answer(write::write_u32(n as u32, order, buf, place))
+    } else {
+        Wrote::Bad
+    }
+}
+
+fn write_number(kind: Numbered, order: Order, place: Place, n: u64, buf: &mut [u8]) -> Wrote {
+    match kind {
+        Numbered::Pad => Wrote::Answer(write::pad_to_align(Length(n as usize), buf, place)),
+        Numbered::Write16 => write_16(n, order, buf, place),
+        Numbered::Write32 => write_32(n, order, buf, place),
+        Numbered::Write64 => Wrote::Answer(write::write_u64(n, order, buf, place)),
+    }
+}
+
 fn of_number(
-    kind: Kind,
+    kind: Numbered,
     order: Order,
     place: Place,
     n: u64,
@@ -97,16 +128,8 @@ fn of_number(
     }
 }
 
-fn write_bytes(kind: Kind, order: Order, place: Place, s: &[u8], buf: &mut [u8]) -> Written {
-    match kind {
-        Kind::WriteString => write::write_string(s, order, buf, place),
-        _ => write::write_signature(s, buf, place),
-    }
-}
-
-// A question with bytes before its buffer: a signature, or a text to write.
 fn of_bytes(
-    kind: Kind,
+    kind: Worded,
     order: Order,
     place: Place,
     s: &[u8],
@@ -115,111 +138,108 @@ fn of_bytes(
     at: usize,
 ) -> usize {
     match kind {
-        Kind::Value => {
+        Worded::Value => {
             says::checked(
                 out,
                 at,
                 validate_raw::validate_marshalled(order, place, buf, s),
             )
         }
-        Kind::Fixed => says::fixed(out, at, read::unmarshal_fixed(order, place, buf, s)),
-        _ => {
-            let w = write_bytes(kind, order, place, s, buf);
+        Worded::Fixed => says::fixed(out, at, read::unmarshal_fixed(order, place, buf, s)),
+        Worded::WriteString => {
+            let w = write::write_string(s, order, buf, place);
+            says::written(out, at, w, buf)
+        }
+        Worded::WriteSignature => {
+            let w = write::write_signature(s, buf, place);
             says::written(out, at, w, buf)
         }
     }
 }
 
-// The buffer is the last word.
+// A place, a number and a buffer.
 fn with_number(
-    kind: Kind,
+    kind: Numbered,
     order: Order,
-    place: Place,
-    rest: &[u8],
+    words: &[u8],
     buf: &mut [u8],
     out: &mut [u8],
     at: usize,
 ) -> usize {
+    let Number::Is(place) = place_of(words) else {
+        return bad(out, at);
+    };
+    let rest = lines::tail(words);
     let Number::Is(n) = lines::number_of(lines::head(rest)) else {
         return bad(out, at);
     };
     let Taken::Bytes(k) = lines::bytes_of(lines::tail(rest), buf) else {
         return bad(out, at);
     };
-    of_number(kind, order, place, n, &mut buf[..k], out, at)
+    of_number(
+        kind,
+        order,
+        Place(place as usize),
+        n,
+        &mut buf[..k],
+        out,
+        at,
+    )
 }
 
+// A place, bytes and a buffer.
 fn with_bytes(
-    kind: Kind,
+    kind: Worded,
     order: Order,
-    place: Place,
-    rest: &[u8],
+    words: &[u8],
     text: &mut [u8],
     buf: &mut [u8],
     out: &mut [u8],
     at: usize,
 ) -> usize {
+    let Number::Is(place) = place_of(words) else {
+        return bad(out, at);
+    };
+    let rest = lines::tail(words);
     let Taken::Bytes(n) = lines::bytes_of(lines::head(rest), text) else {
         return bad(out, at);
     };
     let Taken::Bytes(k) = lines::bytes_of(lines::tail(rest), buf) else {
         return bad(out, at);
     };
-    of_bytes(kind, order, place, &text[..n], &mut buf[..k], out, at)
+    of_bytes(
+        kind,
+        order,
+        Place(place as usize),
+        &text[..n],
+        &mut buf[..k],
+        out,
+        at,
+    )
 }
 
-// Three words are left: a place, a number or bytes, and a buffer.
-fn placed(
-    kind: Kind,
-    order: Order,
-    rest: &[u8],
+// The byte order comes before the place.
+fn ordered(
+    word: &[u8],
+    words: &[u8],
     text: &mut [u8],
     buf: &mut [u8],
     out: &mut [u8],
     at: usize,
 ) -> usize {
-    if lines::count(rest, b' ') != 2 {
-        return bad(out, at);
-    }
-    let Number::Is(n) = lines::number_of(lines::head(rest)) else {
+    let Given::Is(order) = order_of(lines::head(words)) else {
         return bad(out, at);
     };
-    let place = Place(n as usize);
-    match kind {
-        Kind::Pad | Kind::Write16 | Kind::Write32 | Kind::Write64 => with_number(
-            kind,
-            order,
-            place,
-            lines::tail(rest),
-            buf,
-            out,
-            at,
-        ),
-        _ => with_bytes(kind, order, place, lines::tail(rest), text, buf, out, at),
+    let rest = lines::tail(words);
+    match kind_of(word) {
+        Kind::Number(kind) => with_number(kind, order, rest, buf, out, at),
+        Kind::Bytes(kind) => with_bytes(kind, order, rest, text, buf, out, at),
+        Kind::Unknown => bad(out, at),
     }
 }
 
-// The byte order comes first.
-fn ordered(
-    kind: Kind,
-    rest: &[u8],
-    text: &mut [u8],
-    buf: &mut [u8],
-    out: &mut [u8],
-    at: usize,
-) -> usize {
-    let word = lines::head(rest);
-    if check::same(word, b"l") {
-        return placed(kind, Order::Little, lines::tail(rest), text, buf, out, at);
-    }
-    if check::same(word, b"B") {
-        return placed(kind, Order::Big, lines::tail(rest), text, buf, out, at);
-    }
-    bad(out, at)
-}
-
-fn bare_signature(rest: &[u8], text: &mut [u8], out: &mut [u8], at: usize) -> usize {
-    let Taken::Bytes(n) = lines::bytes_of(rest, text) else {
+fn bare_signature(word: &[u8], text: &mut [u8], out: &mut [u8], at: usize) -> usize {
+    let Taken::Bytes(n) = lines::bytes_of(word, text) else {
         return bad(out, at);
     };
     says::counted(out, at, signature::validate_signature(&text[..n]))
@@ -227,12 +247,24 @@ fn bare_signature(rest: &[u8], text: &mut [u8], out: &mut [u8], at: usize) -> us
 
 // A padding and a signature are the same in either order.
 pub fn answer(line: &[u8], text: &mut [u8], buf: &mut [u8], out: &mut [u8], at: usize) -> usize {
-    let kind = kind_of(lines::head(line));
-    let rest = lines::tail(line);
-    match kind {
-        Kind::Unknown => bad(out, at),
-        Kind::Signature => bare_signature(rest, text, out, at),
-        Kind::Pad | Kind::WriteSignature => placed(kind, Order::Little, rest, text, buf, out, at),
-        _ => ordered(kind, rest, text, buf, out, at),
+    let word = lines::head(line);
+    let words = lines::tail(line);
+    if check::same(word, b"sig") {
+        return bare_signature(words, text, out, at);
     }
+    if check::same(word, b"pad") {
+        return with_number(Numbered::Pad, Order::Little, words, buf, out, at);
+    }
+    if check::same(word, b"wsig") {
+        return with_bytes(
+            Worded::WriteSignature,
+            Order::Little,
+            words,
+            text,
+            buf,
+            out,
+            at,
+        );
+    }
+    ordered(word, words, text, buf, out, at)
 }

@@ -1,19 +1,14 @@
 -- The loop's invariant: what is left is all digits where all of it is.
-use Prim.Native.Nat.{ℕ, _+_, _*_, _^_, _-_, _≤_, _<_}
+use Prim.Native.Nat.{_-_, _≤_}
 use native.Mathlib.Omega.{arith}
-use mathlib.Core.Path.{_≡_, refl, sym, ap, _∙_}
-use lib.ListN.{length, drop, length-set, drop-of-length-le, getD}
-use mathlib.Core.Bool.{true, false}
-use mathlib.Core.List.{[]}
+use mathlib.Core.Path.{_≡_, sym, _∙_}
+use lib.ListN.{length, drop, drop-of-length-le}
 use borrow.Author.Tests.{lt-ltb, le-ltb}
 use Rattle.lines.specs.Digits.{allDigits}
 use Rattle.lines.proofs.Laws.{all-step}
 use borrow.Author.Needs.{needs}
 use Rattle.lines.proofs.all_digits.Statement.{statement}
 use Rattle.lines.proofs.all_digits.Tie as tie
-use Rattle.lines.proofs.all_digits.Reads as reads
-use Rattle.lines.proofs.all_digits.Lts as lts
-use Rattle.lines.proofs.digit.Reads as digit-reads
 
 abbrev Inv-loop : tie.InvT-loop
 Inv-loop base s i₀ i = (i ≤ length s) × (allDigits base (drop i s) ≡ allDigits base s)
@@ -21,25 +16,10 @@ Inv-loop base s i₀ i = (i ≤ length s) × (allDigits base (drop i s) ≡ allD
 abbrev μ-loop : tie.MeasureT-loop
 μ-loop base s i₀ i = length s - i
 
-loop-holds : tie.Need-loop-holds Inv-loop μ-loop
-loop-holds c = search needs
-
-shared-slice-read-digit : tie.Need-shared-slice-read-digit Inv-loop μ-loop
-shared-slice-read-digit c = search needs
-
-digit-requires : tie.Need-digit-requires Inv-loop μ-loop
-digit-requires c κs = search needs
-
 returns : tie.Need-returns Inv-loop μ-loop
 returns c =
     let a = c .before .before .before .before .before .before .args in let l = c .before .before .before .before .loop in
     sym ((sym (l .inv .1) ∙ all-step (a .base) (a .s .now) (l .i) (omega arith)) ∙ rw (← c .before .digit .ensures, le-ltb (c .before .digit .result) (a .base) (c .if1 .taken)))
-
-add-i : tie.Need-add-i Inv-loop μ-loop
-add-i c = search needs
-
-loop-less : tie.Need-loop-less Inv-loop μ-loop
-loop-less c = search needs
 
 loop-again : tie.Need-loop-again Inv-loop μ-loop
 loop-again c =
@@ -55,14 +35,4 @@ returns-2 c =
 pub all-digits-spec : {M : Type 1} → statement M
 all-digits-spec =
     tie.close
-    (tie.spec
-    Inv-loop
-    μ-loop
-    loop-holds
-    shared-slice-read-digit
-    digit-requires
-    returns
-    add-i
-    loop-less
-    loop-again
-    returns-2)
+    (tie.spec Inv-loop μ-loop (λ c. search needs) (λ c. search needs) (λ c κs. search needs) returns (λ c. search needs) (λ c. search needs) loop-again returns-2)

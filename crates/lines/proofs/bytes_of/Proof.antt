@@ -1,5 +1,5 @@
 -- Each answer is that of the tests that lead to it.
-use Prim.Native.Nat.{_+_, _*_, _/_, _%_}
+use Prim.Native.Nat.{_/_, _%_}
 use native.Mathlib.Omega.{arith}
 use mathlib.Core.Bool.{true, false}
 use mathlib.Core.Path.{_≡_, refl, sym, _∙_}
@@ -11,13 +11,6 @@ use Rattle.lines.specs.Digits.{allDigits}
 use borrow.Author.Needs.{needs}
 use Rattle.lines.proofs.bytes_of.Statement.{statement}
 use Rattle.lines.proofs.bytes_of.Tie as tie
-use Rattle.lines.proofs.bytes_of.Reads as reads
-use Rattle.lines.proofs.bytes_of.Lts as lts
-use Rattle.lines.proofs.all_digits.Reads as all-digits-reads
-use Rattle.lines.proofs.unpair.Reads as unpair-reads
-
-shared-slice-read-if2 : tie.Need-shared-slice-read-if2
-shared-slice-read-if2 c = search needs
 
 returns : tie.Need-returns
 unfolding takenOf
@@ -45,15 +38,9 @@ returns-5 c =
     let s = c .before .before .before .before .before .before .args .s .now in let o = c .before .before .before .before .before .before .args .out .now in
     simp (ne-eqb (length s) 1 (c .before .before .before .if1 .left), lt-ltb 0 (length s) (omega arith), eq-eqb (length s % 2) 0 (c .before .if4 .left), lt-leb (length s / 2) (length o) (c .if5 .taken)) (refl, refl)
 
-all-digits-requires : tie.Need-all-digits-requires
-all-digits-requires c κs = search needs
-
 unpair-requires : tie.Need-unpair-requires
 unpair-requires c κs =
     (omega arith, omega arith, sym (c .before .before .all-digits .ensures) ∙ c .before .if6 .taken)
-
-same-length : tie.Need-same-length
-same-length c = search needs
 
 returns-6 : tie.Need-returns-6
 unfolding takenOf
@@ -70,15 +57,4 @@ returns-7 c =
 pub bytes-of-spec : {M : Type 1} → statement M
 bytes-of-spec =
     tie.close
-    (tie.spec
-    shared-slice-read-if2
-    returns
-    returns-2
-    returns-3
-    returns-4
-    returns-5
-    all-digits-requires
-    unpair-requires
-    same-length
-    returns-6
-    returns-7)
+    (tie.spec (λ c. search needs) returns returns-2 returns-3 returns-4 returns-5 (λ c κs. search needs) unpair-requires (λ c. search needs) returns-6 returns-7)

@@ -1,16 +1,14 @@
 -- The loop's invariant: what is left to store leads to what all of it leads to.
-use Prim.Native.Nat.{ℕ, _+_, _*_, _^_, _-_, _≤_, _<_}
+use Prim.Native.Nat.{_+_, _-_, _≤_}
 use native.Mathlib.Omega.{arith}
-use mathlib.Core.Path.{_≡_, refl, sym, ap, _∙_}
-use lib.ListN.{length, drop, length-set, drop-of-length-le, getD}
+use mathlib.Core.Path.{_≡_, refl}
+use lib.ListN.{length, drop, length-set, drop-of-length-le}
 use mathlib.Core.List.{[]}
 use lib.Seq.{sets}
 use Rattle.lines.proofs.Laws.{copy-turn}
 use borrow.Author.Needs.{needs}
 use Rattle.lines.proofs.copy.Statement.{statement}
 use Rattle.lines.proofs.copy.Tie as tie
-use Rattle.lines.proofs.copy.Reads as reads
-use Rattle.lines.proofs.copy.Lts as lts
 
 abbrev Inv-loop : tie.InvT-loop
 Inv-loop out₀ at s i₀ out i = (i ≤ length s) × (length out ≡ length out₀) × (sets out (at + i) (drop i s) ≡ sets out₀ at s)
@@ -20,21 +18,6 @@ abbrev μ-loop : tie.MeasureT-loop
 
 loop-holds : tie.Need-loop-holds Inv-loop μ-loop
 loop-holds c = let f : c .args .at + 0 ≡ c .args .at = omega arith in rw f (omega arith, refl, refl)
-
-shared-slice-read-out : tie.Need-shared-slice-read-out Inv-loop μ-loop
-shared-slice-read-out c = search needs
-
-add-out : tie.Need-add-out Inv-loop μ-loop
-add-out c = search needs
-
-slice-write-out : tie.Need-slice-write-out Inv-loop μ-loop
-slice-write-out c = search needs
-
-add-i : tie.Need-add-i Inv-loop μ-loop
-add-i c = search needs
-
-loop-less : tie.Need-loop-less Inv-loop μ-loop
-loop-less c = search needs
 
 loop-again : tie.Need-loop-again Inv-loop μ-loop
 loop-again c = (omega arith, simp length-set (c .before .before .loop .inv .1), copy-turn _ _ (c .before .before .before .args .s .now) (c .before .before .before .args .at) (c .before .before .loop .i) (omega arith) (c .before .before .loop .inv .2))
@@ -48,15 +31,4 @@ returns c = let e : drop (c .before .loop .i) (c .before .before .args .s .now) 
 pub copy-spec : {M : Type 1} → statement M
 copy-spec =
     tie.close
-    (tie.spec
-    Inv-loop
-    μ-loop
-    loop-holds
-    shared-slice-read-out
-    add-out
-    slice-write-out
-    add-i
-    loop-less
-    loop-again
-    same-length
-    returns)
+    (tie.spec Inv-loop μ-loop loop-holds (λ c. search needs) (λ c. search needs) (λ c. search needs) (λ c. search needs) (λ c. search needs) loop-again same-length returns)

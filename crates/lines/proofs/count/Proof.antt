@@ -1,9 +1,8 @@
 -- The loop's invariant: what is counted, and what is left to count, are all.
-use Prim.Native.Nat.{ℕ, _+_, _*_, _^_, _-_, _≤_, _<_}
+use Prim.Native.Nat.{_+_, _-_, _≤_}
 use native.Mathlib.Omega.{arith}
-use mathlib.Core.Path.{_≡_, refl, sym, ap, _∙_}
-use lib.ListN.{length, drop, length-set, drop-of-length-le, getD}
-use mathlib.Core.List.{[]}
+use mathlib.Core.Path.{_≡_}
+use lib.ListN.{length, drop, drop-of-length-le}
 use mathlib.Core.Logic.{⊎-elim}
 use borrow.Author.Tests.{eq-eqb, ne-eqb}
 use Rattle.lines.specs.Words.{occurrences}
@@ -11,29 +10,12 @@ use Rattle.lines.proofs.Laws.{count-step}
 use borrow.Author.Needs.{needs}
 use Rattle.lines.proofs.count.Statement.{statement}
 use Rattle.lines.proofs.count.Tie as tie
-use Rattle.lines.proofs.count.Reads as reads
-use Rattle.lines.proofs.count.Lts as lts
 
 abbrev Inv-loop : tie.InvT-loop
 Inv-loop s b n₀ i₀ n i = (i ≤ length s) × (n ≤ i) × (n + occurrences b (drop i s) ≡ occurrences b s)
 
 abbrev μ-loop : tie.MeasureT-loop
 μ-loop s b n₀ i₀ n i = length s - i
-
-loop-holds : tie.Need-loop-holds Inv-loop μ-loop
-loop-holds c = search needs
-
-shared-slice-read-if1 : tie.Need-shared-slice-read-if1 Inv-loop μ-loop
-shared-slice-read-if1 c = search needs
-
-add-n : tie.Need-add-n Inv-loop μ-loop
-add-n c = search needs
-
-add-i : tie.Need-add-i Inv-loop μ-loop
-add-i c = search needs
-
-loop-less : tie.Need-loop-less Inv-loop μ-loop
-loop-less c = search needs
 
 loop-again : tie.Need-loop-again Inv-loop μ-loop
 loop-again c =
@@ -53,13 +35,4 @@ returns c =
 pub count-spec : {M : Type 1} → statement M
 count-spec =
     tie.close
-    (tie.spec
-    Inv-loop
-    μ-loop
-    loop-holds
-    shared-slice-read-if1
-    add-n
-    add-i
-    loop-less
-    loop-again
-    returns)
+    (tie.spec Inv-loop μ-loop (λ c. search needs) (λ c. search needs) (λ c. search needs) (λ c. search needs) (λ c. search needs) loop-again returns)

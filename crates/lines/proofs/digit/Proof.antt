@@ -4,11 +4,6 @@ use borrow.Author.Tests.{le-leb, lt-leb}
 use borrow.Author.Needs.{needs}
 use Rattle.lines.proofs.digit.Statement.{statement}
 use Rattle.lines.proofs.digit.Tie as tie
-use Rattle.lines.proofs.digit.Reads as reads
-use Rattle.lines.proofs.digit.Lts as lts
-
-add-result : tie.Need-add-result
-add-result c = search needs
 
 returns : tie.Need-returns
 returns c =
@@ -31,4 +26,4 @@ returns-5 c =
     let a = c .before .before .before .before .args .c in simp (lt-leb a 57 (c .before .before .if2 .left), le-leb 48 a (omega arith), le-leb 97 a (c .before .if3 .left), lt-leb a 102 (c .if4 .left))
 
 pub digit-spec : {M : Type 1} → statement M
-digit-spec = tie.close (tie.spec add-result returns returns-2 returns-3 returns-4 returns-5)
+digit-spec = tie.close (tie.spec (λ c. search needs) returns returns-2 returns-3 returns-4 returns-5)

@@ -1,25 +1,17 @@
--- The search is of the whole slice.
-use mathlib.Core.Path.{sym, ap}
-use lib.ListN.{take}
+-- The word ends where the first space stands.
+use mathlib.Core.Path.{sym}
 use lib.Seq.{length-take-le}
-use Rattle.lines.proofs.Laws.{found}
 use borrow.Author.Needs.{needs}
 use Rattle.lines.proofs.head.Statement.{statement}
 use Rattle.lines.proofs.head.Tie as tie
-use Rattle.lines.proofs.head.Reads as reads
-use Rattle.lines.proofs.head.Lts as lts
-use Rattle.bytes.proofs.scan.find.Reads as find-reads
-
-find-requires : tie.Need-find-requires
-find-requires c κs = search needs
 
 slice-aggregate-result : tie.Need-slice-aggregate-result
 slice-aggregate-result c =
-    sym (length-take-le _ _ (c .before .find .ensures .1))
+    sym (length-take-le _ _ (c .before .word-end .ensures .1))
 
 returns : tie.Need-returns
 returns c =
-    rw (← found 32 _ _ (c .before .find .ensures .0))
+    rw (← c .before .word-end .ensures .0)
 
 pub head-spec : {M : Type 1} → statement M
-head-spec = tie.close (tie.spec find-requires slice-aggregate-result returns)
+head-spec = tie.close (tie.spec (λ c κs. search needs) slice-aggregate-result returns)

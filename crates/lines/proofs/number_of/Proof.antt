@@ -1,29 +1,19 @@
 -- Each answer is that of the tests that lead to it.
 use native.Mathlib.Omega.{arith}
 use mathlib.Core.Bool.{true, false}
-use mathlib.Core.Path.{_≡_, refl, sym, _∙_}
+use mathlib.Core.Path.{_≡_, sym, _∙_}
 use lib.ListN.{length}
-use borrow.Author.Tests.{eq-eqb, ne-eqb, lt-ltb, le-ltb, le-leb, lt-leb}
+use borrow.Author.Tests.{lt-ltb, le-ltb}
 use Rattle.lines.specs.Words.{numberOf}
 use Rattle.lines.specs.Digits.{allDigits}
 use borrow.Author.Needs.{needs}
 use Rattle.lines.proofs.number_of.Statement.{statement}
 use Rattle.lines.proofs.number_of.Tie as tie
-use Rattle.lines.proofs.number_of.Reads as reads
-use Rattle.lines.proofs.number_of.Lts as lts
-use Rattle.lines.proofs.all_digits.Reads as all-digits-reads
-use Rattle.lines.proofs.value.Reads as value-reads
 
 returns : tie.Need-returns
 unfolding numberOf
 returns c =
     let s = c .before .before .args .s .now in simp (le-ltb 0 (length s) (omega arith))
-
-all-digits-requires : tie.Need-all-digits-requires
-all-digits-requires c κs = search needs
-
-value-requires : tie.Need-value-requires
-value-requires c κs = search needs
 
 returns-2 : tie.Need-returns-2
 unfolding numberOf
@@ -39,4 +29,4 @@ returns-3 c =
 
 pub number-of-spec : {M : Type 1} → statement M
 number-of-spec =
-    tie.close (tie.spec returns all-digits-requires value-requires returns-2 returns-3)
+    tie.close (tie.spec returns (λ c κs. search needs) (λ c κs. search needs) returns-2 returns-3)

@@ -1,19 +1,15 @@
 -- The loop's invariant: what is left to store leads to what all of it leads to.
 use Rattle.lines.proofs.Laws.{digit-at}
-use Prim.Native.Nat.{ℕ, _+_, _*_, _^_, _-_, _≤_, _<_}
+use Prim.Native.Nat.{_+_, _*_, _-_, _≤_}
 use native.Mathlib.Omega.{arith}
-use mathlib.Core.Path.{_≡_, refl, sym, ap, _∙_}
-use lib.ListN.{length, drop, length-set, drop-of-length-le, getD}
-use mathlib.Core.List.{[]}
+use mathlib.Core.Path.{_≡_}
+use lib.ListN.{length, drop, length-set, drop-of-length-le}
 use lib.Seq.{sets}
 use Rattle.lines.specs.Digits.{pairs}
 use Rattle.lines.proofs.Laws.{pairs-turn}
 use borrow.Author.Needs.{needs}
 use Rattle.lines.proofs.unpair.Statement.{statement}
 use Rattle.lines.proofs.unpair.Tie as tie
-use Rattle.lines.proofs.unpair.Reads as reads
-use Rattle.lines.proofs.unpair.Lts as lts
-use Rattle.lines.proofs.digit.Reads as digit-reads
 
 abbrev Inv-loop : tie.InvT-loop
 Inv-loop s out₀ size i₀ out i = (i ≤ size) × (length out ≡ length out₀) × (sets out i (pairs (drop (2 * i) s)) ≡ sets out₀ 0 (pairs s))
@@ -21,48 +17,15 @@ Inv-loop s out₀ size i₀ out i = (i ≤ size) × (length out ≡ length out�
 abbrev μ-loop : tie.MeasureT-loop
 μ-loop s out₀ size i₀ out i = size - i
 
-loop-holds : tie.Need-loop-holds Inv-loop μ-loop
-loop-holds c = search needs
-
-mul-digit : tie.Need-mul-digit Inv-loop μ-loop
-mul-digit c = search needs
-
-shared-slice-read-digit : tie.Need-shared-slice-read-digit Inv-loop μ-loop
-shared-slice-read-digit c = search needs
-
-digit-requires : tie.Need-digit-requires Inv-loop μ-loop
-digit-requires c κs = search needs
-
 mul-out : tie.Need-mul-out Inv-loop μ-loop
 mul-out c =
     let a = c .before .before .before .before .before .before in
     omega (arith, c .digit .ensures, digit-at 16 (a .args .s .now) (2 * c .before .before .before .loop .i) (a .pre .2) (omega arith))
 
-mul-digit-2 : tie.Need-mul-digit-2 Inv-loop μ-loop
-mul-digit-2 c = search needs
-
-add-digit : tie.Need-add-digit Inv-loop μ-loop
-add-digit c = search needs
-
-shared-slice-read-digit-2 : tie.Need-shared-slice-read-digit-2 Inv-loop μ-loop
-shared-slice-read-digit-2 c = search needs
-
-digit-requires-2 : tie.Need-digit-requires-2 Inv-loop μ-loop
-digit-requires-2 c κs = search needs
-
 add-out : tie.Need-add-out Inv-loop μ-loop
 add-out c =
     let a = c .before .before .before .before .before .before .before .before in let i = c .before .before .before .before .before .loop .i in
     omega (arith, c .before .before .digit .ensures, c .digit2 .ensures, digit-at 16 (a .args .s .now) (2 * i) (a .pre .2) (omega arith), digit-at 16 (a .args .s .now) (2 * i + 1) (a .pre .2) (omega arith))
-
-slice-write-out : tie.Need-slice-write-out Inv-loop μ-loop
-slice-write-out c = search needs
-
-add-i : tie.Need-add-i Inv-loop μ-loop
-add-i c = search needs
-
-loop-less : tie.Need-loop-less Inv-loop μ-loop
-loop-less c = search needs
 
 loop-again : tie.Need-loop-again Inv-loop μ-loop
 loop-again c =
@@ -81,22 +44,4 @@ returns c =
 pub unpair-spec : {M : Type 1} → statement M
 unpair-spec =
     tie.close
-    (tie.spec
-    Inv-loop
-    μ-loop
-    loop-holds
-    mul-digit
-    shared-slice-read-digit
-    digit-requires
-    mul-out
-    mul-digit-2
-    add-digit
-    shared-slice-read-digit-2
-    digit-requires-2
-    add-out
-    slice-write-out
-    add-i
-    loop-less
-    loop-again
-    same-length
-    returns)
+    (tie.spec Inv-loop μ-loop (λ c. search needs) (λ c. search needs) (λ c. search needs) (λ c κs. search needs) mul-out (λ c. search needs) (λ c. search needs) (λ c. search needs) (λ c κs. search needs) add-out (λ c. search needs) (λ c. search needs) (λ c. search needs) loop-again same-length returns)
