@@ -2,6 +2,7 @@ pub mod ArrayLaws
 pub mod SpellLaws
 pub mod WalkLaws
 pub mod ElementLaws
+pub mod KeyLaws
 pub mod OpenLaws
 pub mod BaseLaws
 pub mod LoopLaws

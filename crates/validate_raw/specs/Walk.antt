@@ -1,7 +1,7 @@
 -- What the functions of the walk answer, in terms of the readers of the meaning crate. A walk that only checks hands on places: past the type in
 -- the signature, and past the value in the bytes.
 use Prim.Native.Nat.{ℕ, _+_, _-_, _≤_, _<_}
-use mathlib.Core.Bool.{Bool, true, false, _||_}
+use mathlib.Core.Bool.{Bool, true, false, _||_, _&&_}
 use mathlib.Core.List.{List}
 use mathlib.Core.Path.{_≡_}
 use lib.ListN.{length, take, drop, getD}
@@ -97,3 +97,7 @@ pub record Element (s : List ℕ) (p : ℕ) : Type 0 where
 -- the first bytes of arrays, structs, dicts alone and variants
 unfoldable pub composite : ℕ → Bool
 composite k = eqb k 97 || (eqb k 40 || (eqb k 123 || eqb k 118))
+
+-- where the key of the dict stands that begins at p, after its bracket; 0 where none begins there
+unfoldable pub keyPlace : List ℕ → ℕ → ℕ
+keyPlace s p = pick (eqb (getD s p 0) 123) (p + 1) (pick (eqb (getD s p 0) 97 && eqb (getD s (p + 1) 0) 123) (p + 2) 0)

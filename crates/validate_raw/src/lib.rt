@@ -11,7 +11,7 @@ ghost use Rattle.meaning.specs.Reader.{many, reachedOf};
 ghost use Rattle.meaning.specs.ReadValue.{padding, readFix, readG, bareR, baseR, arrayR, read, readVar, checkValue};
 ghost use Rattle.meaning.specs.Writers.{isAlignment};
 ghost use Rattle.util.specs.Entry.{Window};
-ghost use Rattle.validate_raw.specs.Walk.{spelledR, speltOf, walkedOf, lyingR, headR, openedOf, entryR, InnerIs, BaseCode, AnyBits, wholeCode, Element, composite};
+ghost use Rattle.validate_raw.specs.Walk.{spelledR, speltOf, walkedOf, lyingR, headR, openedOf, entryR, InnerIs, BaseCode, AnyBits, wholeCode, Element, composite, keyPlace};
 use meaning::Checked;
 use meaning::Counted;
 use meaning::Fault;
@@ -334,6 +334,22 @@ pub fn value(
     }
 }
 
+// Where the key of a dict at `at` stands, and 0 where the type is no dict. Dicts in arrays and alone have one way on, so that a dict's frame is
+// part of the one that every nested value costs.
+fn key_place(sig: &[u8], at: usize) -> usize
+    requires { ⌜ Typed (now sig) at ⌝ }
+    ensures { λ r. ⌜ r ≡ keyPlace (now (sig .entry)) at ⌝ }
+{
+    let k = sig[at];
+    if k == b'{' {
+        at + 1
+    } else if k == b'a' {
+        if sig[at + 1] == b'{' { at + 2 } else { 0 }
+    } else {
+        0
+    }
+}
+
 // A value of the type at `at`, which is an array, a dict or a variant.
 fn item(
     order: Order,
@@ -351,15 +367,11 @@ fn item(
     ensures { λ r. ⌜ ((t : Ty) (e : ℕ) → TypeAt t (now (sig .entry)) at e →
         r ≡ walkedOf e (read order (readVar order levels) t (take end (now (buf .entry))) off)) ⌝ }
 {
-    let k = sig[at];
-    if k == b'a' {
-        if sig[at + 1] == b'{' {
-            dict(order, sig, at + 2, buf, end, off, levels)
-        } else {
-            array(order, sig, at + 1, buf, end, off, levels)
-        }
-    } else if k == b'{' {
-        dict(order, sig, at + 1, buf, end, off, levels)
+    let key = key_place(sig, at);
+    if 0 < key {
+        dict(order, sig, key, buf, end, off, levels)
+    } else if sig[at] == b'a' {
+        array(order, sig, at + 1, buf, end, off, levels)
     } else {
         match variant(order, buf, end, off, levels) {
             Reached::At(place) => Walked::Past(at + 1, place.0),

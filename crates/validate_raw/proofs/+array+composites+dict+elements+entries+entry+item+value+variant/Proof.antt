@@ -9,12 +9,12 @@ use lib.ListN.{length, take, drop, length-take}
 use lib.Dec.{T}
 use native.Mathlib.Nat.{pos-of-ne-zero}
 use Rattle.meaning.specs.declared.Order.the-variants.{Little}
-use Rattle.meaning.specs.Types.{Base, Ty, inArray, loose}
+use Rattle.meaning.specs.Types.{Base, Ty}
 use Rattle.meaning.specs.Places.{TypeAt, EntryAt}
 use Rattle.meaning.specs.Reader.{reachedOf}
 use Rattle.meaning.specs.ReadValue.{baseR, read, readVar}
 use Rattle.meaning.specs.Writers.{isAlignment}
-use Rattle.meaning.proofs.PlaceLaws.{start, start-entry, go-array, go-dict, go-loose, go-value, is-base, is-variant, is-array, is-dict, is-loose, in-entry}
+use Rattle.meaning.proofs.PlaceLaws.{start, start-entry, go-array, go-value, is-base, is-variant, is-array, in-entry}
 use Rattle.meaning.proofs.Loop.{Onward}
 use Rattle.util.proofs.Windows.{reached-within}
 use Rattle.meaning.proofs.ValueLocal.{baseR-local}
@@ -24,6 +24,7 @@ use Rattle.validate_raw.proofs.ElementLaws.{element-alignment, basic, f
 use Rattle.validate_raw.proofs.LoopLaws.{began}
 use Rattle.validate_raw.proofs.WalkLaws.{base-read, variant-read, dict-read, array-read, variant-deep, variant-shut, variant-holds, inner-at, inner-shut, inner-inside, inner-typed, elements-basic, past-next, walked-place, walked-refusal}
 use Rattle.validate_raw.proofs.CycleLaws.{value-local, value-grows, entryR-local, entryR-grows, walk-moved, walk-turned, walk-refused, walk-ended, walk-none, opened-within, dict-shut, dict-entries, array-shut, array-elements, array-plain, array-ragged, entry-stop, entry-key, entry-past, entry-value, second}
+use Rattle.validate_raw.proofs.KeyLaws.{key-typed, key-after, is-keyed, no-brace, no-alone}
 use Rattle.validate_raw.proofs.NestLaws.{Left, whole, inside, rest-done, left-start, left-typed, left-open, left-shut, left-close, left-past, left-stop, value-moved}
 use borrow.Fn.Kinds.{In}
 use borrow.Fn.PlainCycle.{Measures, is, falls, and}
@@ -62,6 +63,7 @@ use Rattle.validate_raw.proofs.base.Reads as base-reads
 use Rattle.validate_raw.proofs.basics.Reads as basics-reads
 use Rattle.validate_raw.proofs.inner.Reads as inner-reads
 use Rattle.validate_raw.proofs.is_composite.Reads as is-composite-reads
+use Rattle.validate_raw.proofs.key_place.Reads as key-place-reads
 use Rattle.validate_raw.proofs.opening.Reads as opening-reads
 use Rattle.validate_raw.proofs.whole.Reads as whole-reads
 use Rattle.validate_raw.proofs.+array+composites+dict+elements+entries+entry+item+value+variant.{
@@ -184,7 +186,7 @@ abbrev entry-claims : ℕ → entry-lts.Claims
 entry-claims t = (padded-reads.Asked, padded-reads.Learnt, base-reads.Asked, base-reads.Learnt, value-below t, value.Post)
 
 abbrev item-claims : ℕ → item-lts.Claims
-item-claims t = (dict-below t, dict.Post, array-below t, array.Post, variant-below t, variant.Post)
+item-claims t = (key-place-reads.Asked, key-place-reads.Learnt, dict-below t, dict.Post, array-below t, array.Post, variant-below t, variant.Post)
 
 abbrev value-claims : ℕ → value-lts.Claims
 value-claims t = (padded-reads.Asked, padded-reads.Learnt, is-composite-reads.Asked, is-composite-reads.Learnt, item-below t, item.Post, base-reads.Asked, base-reads.Learnt)
@@ -425,59 +427,44 @@ entry-returns-3 t c = λ k u e h. (let y = in-entry h in entry-key (c .before .b
 entry-returns-4 : (t : ℕ) → entry-lts.Need-returns-4 (entry-claims t) (entry-at t) entry.Post
 entry-returns-4 t c = λ k u e h. entry-stop (c .before .before .before .before .before .before .args .order) (c .before .before .before .before .before .before .args .levels) k u (take (c .before .before .before .before .before .before .args .end) (c .before .before .before .before .before .before .args .buf .now)) (c .before .before .before .before .before .before .args .off) e _ (sym (c .before .before .before .padded .ensures) ∙ c .before .refusal3 .given .1)
 
-item-shared-slice-read-k : (t : ℕ) → item-lts.Need-shared-slice-read-k (item-claims t) (item-at t) item.Post
-item-shared-slice-read-k t c = start (c .before .before .before .pre .1 .0)
-
-item-add-if2 : (t : ℕ) → item-lts.Need-add-if2 (item-claims t) (item-at t) item.Post
-item-add-if2 t c = omega (arith, start (c .before .before .before .before .pre .1 .0))
-
-item-shared-slice-read-if2 : (t : ℕ) → item-lts.Need-shared-slice-read-if2 (item-claims t) (item-at t) item.Post
-item-shared-slice-read-if2 t c = second (c .before .before .before .before .before .pre .1 .0) (c .before .if1 .taken)
-
-item-add-dict : (t : ℕ) → item-lts.Need-add-dict (item-claims t) (item-at t) item.Post
-item-add-dict t c = omega (arith, second (c .before .before .before .before .before .before .pre .1 .0) (c .before .before .if1 .taken))
+item-key-place-requires : (t : ℕ) → item-lts.Need-key-place-requires (item-claims t) (item-at t) item.Post
+item-key-place-requires t c κs = c .before .before .pre .1 .0
 
 item-dict-requires : (t : ℕ) → item-lts.Need-dict-requires (item-claims t) (item-at t) item.Post
-item-dict-requires t c κs = (omega (arith, second (c .before .before .before .before .before .before .pre .1 .0) (c .before .before .if1 .taken), c .before .before .before .before .before .before .pre .0), (go-dict (c .before .before .before .before .before .before .pre .1 .0) (c .before .before .if1 .taken) (c .if2 .taken), c .before .before .before .before .before .before .pre .1 .1 .1 .1))
+item-dict-requires t c κs = (omega (arith, key-after (c .before .before .before .before .args .sig .now) (c .before .before .before .before .args .at) (c .before .key-place .ensures) (c .if1 .taken), start (c .before .before .before .before .pre .1 .0), c .before .before .before .before .pre .0), (key-typed (c .before .before .before .before .args .sig .now) (c .before .before .before .before .args .at) (c .before .key-place .ensures) (c .if1 .taken) (c .before .before .before .before .pre .1 .0), c .before .before .before .before .pre .1 .1 .1 .1))
+
+item-shared-slice-read-if2 : (t : ℕ) → item-lts.Need-shared-slice-read-if2 (item-claims t) (item-at t) item.Post
+item-shared-slice-read-if2 t c = start (c .before .before .before .before .before .pre .1 .0)
 
 item-add-array : (t : ℕ) → item-lts.Need-add-array (item-claims t) (item-at t) item.Post
-item-add-array t c = omega (arith, second (c .before .before .before .before .before .before .pre .1 .0) (c .before .before .if1 .taken))
+item-add-array t c = omega (arith, second (c .before .before .before .before .before .before .pre .1 .0) (c .if2 .taken))
 
 item-array-requires : (t : ℕ) → item-lts.Need-array-requires (item-claims t) (item-at t) item.Post
-item-array-requires t c κs = (omega (arith, second (c .before .before .before .before .before .before .pre .1 .0) (c .before .before .if1 .taken), c .before .before .before .before .before .before .pre .0), (record { typed = go-array (c .before .before .before .before .before .before .pre .1 .0) (c .before .before .if1 .taken) (c .if2 .left); other = c .if2 .left }, c .before .before .before .before .before .before .pre .1 .1 .1 .1))
-
-item-add-dict-2 : (t : ℕ) → item-lts.Need-add-dict-2 (item-claims t) (item-at t) item.Post
-item-add-dict-2 t c = omega (arith, start (c .before .before .before .before .before .pre .1 .0))
-
-item-dict-requires-2 : (t : ℕ) → item-lts.Need-dict-requires-2 (item-claims t) (item-at t) item.Post
-item-dict-requires-2 t c κs = (omega (arith, start (c .before .before .before .before .before .pre .1 .0), c .before .before .before .before .before .pre .0), (go-loose (c .before .before .before .before .before .pre .1 .0) (c .if3 .taken), c .before .before .before .before .before .pre .1 .1 .1 .1))
+item-array-requires t c κs = (omega (arith, second (c .before .before .before .before .before .before .pre .1 .0) (c .if2 .taken), c .before .before .before .before .before .before .pre .0), (record { typed = go-array (c .before .before .before .before .before .before .pre .1 .0) (c .if2 .taken) (no-brace (c .before .before .before .before .before .before .args .sig .now) (c .before .before .before .before .before .before .args .at) (c .before .before .before .key-place .ensures) (c .before .before .if1 .left) (c .if2 .taken)); other = no-brace (c .before .before .before .before .before .before .args .sig .now) (c .before .before .before .before .before .before .args .at) (c .before .before .before .key-place .ensures) (c .before .before .if1 .left) (c .if2 .taken) }, c .before .before .before .before .before .before .pre .1 .1 .1 .1))
 
 item-variant-requires : (t : ℕ) → item-lts.Need-variant-requires (item-claims t) (item-at t) item.Post
-item-variant-requires t c κs = (omega (arith, start (c .before .before .before .before .before .pre .1 .0), c .before .before .before .before .before .pre .0), c .before .before .before .before .before .pre .1 .1 .1 .1)
+item-variant-requires t c κs = (omega (arith, start (c .before .before .before .before .before .before .pre .1 .0), c .before .before .before .before .before .before .pre .0), c .before .before .before .before .before .before .pre .1 .1 .1 .1)
 
 item-enum-known-place : (t : ℕ) → item-lts.Need-enum-known-place (item-claims t) (item-at t) item.Post
 item-enum-known-place t c = search needs
 
-item-add-t27 : (t : ℕ) → item-lts.Need-add-t27 (item-claims t) (item-at t) item.Post
-item-add-t27 t c = omega (arith, start (c .before .before .before .before .before .before .before .before .before .pre .1 .0))
+item-add-t20 : (t : ℕ) → item-lts.Need-add-t20 (item-claims t) (item-at t) item.Post
+item-add-t20 t c = omega (arith, start (c .before .before .before .before .before .before .before .before .before .before .pre .1 .0))
 
 item-enum-known-refusal : (t : ℕ) → item-lts.Need-enum-known-refusal (item-claims t) (item-at t) item.Post
 item-enum-known-refusal t c = search needs
 
 item-returns : (t : ℕ) → item-lts.Need-returns (item-claims t) (item-at t) item.Post
-item-returns t c = λ u e h. (let i = is-dict h (c .before .before .before .if1 .taken) (c .before .if2 .taken) in dict-read (c .before .before .before .before .before .before .before .args .order) (readVar (c .before .before .before .before .before .before .before .args .order) (c .before .before .before .before .before .before .before .args .levels)) (take (c .before .before .before .before .before .before .before .args .end) (c .before .before .before .before .before .before .before .args .buf .now)) (c .before .before .before .before .before .before .before .args .off) u inArray (i .key) (i .value) e _ (i .is) (c .dict .ensures (i .key) (i .value) e (i .stands)))
+item-returns t c = λ u e h. (let i = is-keyed (c .before .before .before .before .before .args .sig .now) (c .before .before .before .before .before .args .at) (c .before .before .key-place .ensures) (c .before .if1 .taken) h in dict-read (c .before .before .before .before .before .args .order) (readVar (c .before .before .before .before .before .args .order) (c .before .before .before .before .before .args .levels)) (take (c .before .before .before .before .before .args .end) (c .before .before .before .before .before .args .buf .now)) (c .before .before .before .before .before .args .off) u (i .form) (i .key) (i .value) e _ (i .is) (c .dict .ensures (i .key) (i .value) e (i .stands)))
 
 item-returns-2 : (t : ℕ) → item-lts.Need-returns-2 (item-claims t) (item-at t) item.Post
-item-returns-2 t c = λ u e h. (let i = is-array h (c .before .before .before .if1 .taken) (c .before .if2 .left) in array-read (c .before .before .before .before .before .before .before .args .order) (readVar (c .before .before .before .before .before .before .before .args .order) (c .before .before .before .before .before .before .before .args .levels)) (take (c .before .before .before .before .before .before .before .args .end) (c .before .before .before .before .before .before .before .args .buf .now)) (c .before .before .before .before .before .before .before .args .off) u (i .element) e _ (i .is) (c .array .ensures (i .element) e (i .stands)))
+item-returns-2 t c = λ u e h. (let i = is-array h (c .before .if2 .taken) (no-brace (c .before .before .before .before .before .before .before .args .sig .now) (c .before .before .before .before .before .before .before .args .at) (c .before .before .before .before .key-place .ensures) (c .before .before .before .if1 .left) (c .before .if2 .taken)) in array-read (c .before .before .before .before .before .before .before .args .order) (readVar (c .before .before .before .before .before .before .before .args .order) (c .before .before .before .before .before .before .before .args .levels)) (take (c .before .before .before .before .before .before .before .args .end) (c .before .before .before .before .before .before .before .args .buf .now)) (c .before .before .before .before .before .before .before .args .off) u (i .element) e _ (i .is) (c .array .ensures (i .element) e (i .stands)))
 
 item-returns-3 : (t : ℕ) → item-lts.Need-returns-3 (item-claims t) (item-at t) item.Post
-item-returns-3 t c = λ u e h. (let i = is-loose h (c .before .if3 .taken) in dict-read (c .before .before .before .before .before .before .args .order) (readVar (c .before .before .before .before .before .before .args .order) (c .before .before .before .before .before .before .args .levels)) (take (c .before .before .before .before .before .before .args .end) (c .before .before .before .before .before .before .args .buf .now)) (c .before .before .before .before .before .before .args .off) u loose (i .key) (i .value) e _ (i .is) (c .dict2 .ensures (i .key) (i .value) e (i .stands)))
+item-returns-3 t c = λ u e h. (let i = is-variant h (fourth-composite (c .before .before .before .before .before .before .before .before .before .before .pre .1 .1 .0) (c .before .before .before .before .if2 .left) (c .before .before .before .before .before .before .before .before .before .before .pre .1 .1 .1 .0) (no-alone (c .before .before .before .before .before .before .before .before .before .before .args .sig .now) (c .before .before .before .before .before .before .before .before .before .before .args .at) (c .before .before .before .before .before .before .before .key-place .ensures) (c .before .before .before .before .before .before .if1 .left))) in variant-read (c .before .before .before .before .before .before .before .before .before .before .args .order) (readVar (c .before .before .before .before .before .before .before .before .before .before .args .order) (c .before .before .before .before .before .before .before .before .before .before .args .levels)) (take (c .before .before .before .before .before .before .before .before .before .before .args .end) (c .before .before .before .before .before .before .before .before .before .before .args .buf .now)) (c .before .before .before .before .before .before .before .before .before .before .args .off) u _ e _ (i .is) (i .ends) (sym (c .before .place .given .1) ∙ c .before .before .before .variant .ensures))
 
 item-returns-4 : (t : ℕ) → item-lts.Need-returns-4 (item-claims t) (item-at t) item.Post
-item-returns-4 t c = λ u e h. (let i = is-variant h (fourth-composite (c .before .before .before .before .before .before .before .before .before .pre .1 .1 .0) (c .before .before .before .before .before .if1 .left) (c .before .before .before .before .before .before .before .before .before .pre .1 .1 .1 .0) (c .before .before .before .before .if3 .left)) in variant-read (c .before .before .before .before .before .before .before .before .before .args .order) (readVar (c .before .before .before .before .before .before .before .before .before .args .order) (c .before .before .before .before .before .before .before .before .before .args .levels)) (take (c .before .before .before .before .before .before .before .before .before .args .end) (c .before .before .before .before .before .before .before .before .before .args .buf .now)) (c .before .before .before .before .before .before .before .before .before .args .off) u _ e _ (i .is) (i .ends) (sym (c .before .place .given .1) ∙ c .before .before .before .variant .ensures))
-
-item-returns-5 : (t : ℕ) → item-lts.Need-returns-5 (item-claims t) (item-at t) item.Post
-item-returns-5 t c = λ u e h. (let i = is-variant h (fourth-composite (c .before .before .before .before .before .before .before .before .before .pre .1 .1 .0) (c .before .before .before .before .before .if1 .left) (c .before .before .before .before .before .before .before .before .before .pre .1 .1 .1 .0) (c .before .before .before .before .if3 .left)) in variant-read (c .before .before .before .before .before .before .before .before .before .args .order) (readVar (c .before .before .before .before .before .before .before .before .before .args .order) (c .before .before .before .before .before .before .before .before .before .args .levels)) (take (c .before .before .before .before .before .before .before .before .before .args .end) (c .before .before .before .before .before .before .before .before .before .args .buf .now)) (c .before .before .before .before .before .before .before .before .before .args .off) u e e _ (i .is) refl (sym (c .before .refusal .given .1) ∙ c .before .before .before .variant .ensures))
+item-returns-4 t c = λ u e h. (let i = is-variant h (fourth-composite (c .before .before .before .before .before .before .before .before .before .before .pre .1 .1 .0) (c .before .before .before .before .if2 .left) (c .before .before .before .before .before .before .before .before .before .before .pre .1 .1 .1 .0) (no-alone (c .before .before .before .before .before .before .before .before .before .before .args .sig .now) (c .before .before .before .before .before .before .before .before .before .before .args .at) (c .before .before .before .before .before .before .before .key-place .ensures) (c .before .before .before .before .before .before .if1 .left))) in variant-read (c .before .before .before .before .before .before .before .before .before .before .args .order) (readVar (c .before .before .before .before .before .before .before .before .before .before .args .order) (c .before .before .before .before .before .before .before .before .before .before .args .levels)) (take (c .before .before .before .before .before .before .before .before .before .before .args .end) (c .before .before .before .before .before .before .before .before .before .before .args .buf .now)) (c .before .before .before .before .before .before .before .before .before .before .args .off) u e e _ (i .is) refl (sym (c .before .refusal .given .1) ∙ c .before .before .before .variant .ensures))
 
 abbrev value-Inv-loop : value-lts.InvT-loop
 value-Inv-loop order sig at buf end off levels i₀ o₀ depth₀ i o depth = (at ≤ i) × (off ≤ o) × (o ≤ end) × (depth ≤ i) × ((t : Ty) (e : ℕ) → TypeAt t sig at e → Left order levels sig (take end buf) e (walkedOf e (read order (readVar order levels) t (take end buf) off)) i o depth)
@@ -762,6 +749,8 @@ pub +array+composites+dict+elements+entries+entry+item+value+variant-spec :
     (entry-returns-3 t)
     (entry-returns-4 t))
     (λ t. item-lts.spec (
+      key-place-reads.Asked,
+      key-place-reads.Learnt,
       dict-below t,
       dict.Post,
       array-below t,
@@ -771,24 +760,19 @@ pub +array+composites+dict+elements+entries+entry+item+value+variant-spec :
     )
     (item-at t)
     item.Post
-    (item-shared-slice-read-k t)
-    (item-add-if2 t)
-    (item-shared-slice-read-if2 t)
-    (item-add-dict t)
+    (item-key-place-requires t)
     (item-dict-requires t)
+    (item-shared-slice-read-if2 t)
     (item-add-array t)
     (item-array-requires t)
-    (item-add-dict-2 t)
-    (item-dict-requires-2 t)
     (item-variant-requires t)
     (item-enum-known-place t)
-    (item-add-t27 t)
+    (item-add-t20 t)
     (item-enum-known-refusal t)
     (item-returns t)
     (item-returns-2 t)
     (item-returns-3 t)
-    (item-returns-4 t)
-    (item-returns-5 t))
+    (item-returns-4 t))
     (λ t. value-lts.spec (
       padded-reads.Asked,
       padded-reads.Learnt,
