@@ -1,5 +1,5 @@
 //! bench time: ratios to the original crate on 60 KiB of each type.  bench worst: the cost per byte of hard inputs.
-//! bench stack KIB: checks the deepest value on a thread with that much stack.
+//! bench stack KIB: checks the deepest values on a thread with that much stack.
 //! bench run TYPE crate|library N: N checks of that type's 60 KiB, for a tool that counts instructions.
 use rustbus::signature::Type;
 use rustbus::wire::{util, validate_raw::validate_marshalled};
@@ -211,14 +211,14 @@ fn worst() {
     }
 }
 
-// The deepest value: 16 variants, and 31 arrays and 31 structs in each.
-fn deepest() -> Vec<u8> {
-    fn nested(buf: &mut Vec<u8>, levels: usize, variants: usize) {
+// The deepest values: 16 variants, and in each 31 arrays with a struct as their element, or 31 dicts with a byte as their key.
+fn deepest(dicts: bool) -> Vec<u8> {
+    fn nested(buf: &mut Vec<u8>, dicts: bool, levels: usize, variants: usize) {
         if levels == 0 {
             if variants == 0 {
                 buf.push(7);
             } else {
-                holder(buf, variants);
+                holder(buf, dicts, variants);
             }
             return;
         }
@@ -227,19 +227,23 @@ fn deepest() -> Vec<u8> {
         buf.extend([0u8; 4]);
         util::pad_to_align(8, buf);
         let first = buf.len();
-        nested(buf, levels - 1, variants);
+        if dicts {
+            buf.push(1);
+        }
+        nested(buf, dicts, levels - 1, variants);
         let n = (buf.len() - first) as u32;
         buf[at..at + 4].copy_from_slice(&n.to_le_bytes());
     }
-    fn holder(buf: &mut Vec<u8>, variants: usize) {
-        let sig = format!("{}{}{}", "a(".repeat(31), if variants == 1 { "y" } else { "v" }, ")".repeat(31));
+    fn holder(buf: &mut Vec<u8>, dicts: bool, variants: usize) {
+        let (open, close) = if dicts { ("a{y", "}") } else { ("a(", ")") };
+        let sig = format!("{}{}{}", open.repeat(31), if variants == 1 { "y" } else { "v" }, close.repeat(31));
         buf.push(sig.len() as u8);
         buf.extend(sig.as_bytes());
         buf.push(0);
-        nested(buf, 31, variants - 1);
+        nested(buf, dicts, 31, variants - 1);
     }
     let mut buf = vec![];
-    holder(&mut buf, 16);
+    holder(&mut buf, dicts, 16);
     buf
 }
 
@@ -251,9 +255,8 @@ fn main() {
         Some("run") => run(&words[2], &words[3], words[4].parse().unwrap()),
         Some("stack") => {
             let kib: usize = words[2].parse().unwrap();
-            let buf = deepest();
-            let n = buf.len() as u64;
-            let run = move || assert_eq!(ours(&buf, b"v"), n);
+            let bufs = [deepest(false), deepest(true)];
+            let run = move || bufs.iter().for_each(|buf| assert_eq!(ours(buf, b"v"), buf.len() as u64));
             std::thread::Builder::new().stack_size(kib * 1024).spawn(run).unwrap().join().unwrap();
         }
         _ => eprintln!("bench time | worst | stack KIB | run TYPE crate|library N"),
