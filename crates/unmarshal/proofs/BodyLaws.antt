@@ -1,11 +1,10 @@
 -- The values of a body one by one: the types that are left at a place of the signature answer for all of them.
-use Prim.Native.Nat.{ℕ, _+_, _-_, _≤_, _<_}
+use Prim.Native.Nat.{ℕ, _≤_, _<_}
 use native.Mathlib.Omega.{arith}
-use mathlib.Core.Bool.{true}
-use mathlib.Core.List.{List, [], _∷_, _++_}
+use mathlib.Core.List.{List, [], _∷_}
 use mathlib.Core.Path.{_≡_, refl, ap, sym, subst, _∙_}
-use lib.ListN.{length, take, drop}
-use lib.Seq.{length-take-le, take-length}
+use lib.ListN.{length, take}
+use lib.Seq.{take-length}
 use lib.Dec.{T}
 use Rattle.meaning.specs.declared.Order.{Order}
 use Rattle.meaning.specs.declared.Refusal.{Refusal}
@@ -14,12 +13,12 @@ use Rattle.meaning.specs.declared.Fault.the-variants.{BodyLeft}
 use Rattle.meaning.specs.Faults.{refusal}
 use Rattle.meaning.specs.Types.{Ty, Value}
 use Rattle.meaning.specs.Signature.{parse, types, spell, spellAll, shape, nest, legal, allLegal}
-use Rattle.meaning.specs.Places.{Spelled, TypeAt, Typed, shapeAll}
+use Rattle.meaning.specs.Places.{TypeAt, Typed, shapeAll}
 use Rattle.meaning.specs.Message.{Values}
 use Rattle.meaning.specs.Reader.{Res, got, fault, stop, R, ret, _>>=_, _>>_, reachedOf}
 use Rattle.meaning.specs.ReadValue.{pairR, read, readVar, readTop}
 use Rattle.meaning.specs.ReadMessage.{ended, valuesR, bodyR}
-use Rattle.meaning.proofs.Local.{bind-got, bind-fault, leb-true, leb-false}
+use Rattle.meaning.proofs.Local.{bind-got, bind-fault, leb-false}
 use Rattle.meaning.proofs.MessageLocal.{ended-yes}
 use Rattle.meaning.proofs.ValueLocal.{readTop-local}
 use Rattle.meaning.proofs.SignatureLaws.{parse-sound}

@@ -4,14 +4,13 @@ use native.Mathlib.Omega.{arith}
 use mathlib.Core.Bool.{Bool, true, false, _&&_}
 use mathlib.Core.List.{List, [], _∷_}
 use mathlib.Core.Path.{_≡_, refl, ap, sym, subst, _∙_}
-use lib.ListN.{length, getD}
-use lib.Dec.{leb, T}
+use lib.ListN.{length}
 use Rattle.meaning.specs.Types.{Base, fix, u32, str, path, sig}
 use Rattle.meaning.specs.Signature.{code}
-use Rattle.meaning.specs.Message.{Wants, nothing, exactly, anything, wants, every, knownCodes}
-use Rattle.meaning.proofs.Local.{Cmp, isLe, isGt, cmp, leb-true, leb-false}
+use Rattle.meaning.specs.Message.{nothing, exactly, anything, wants, every, knownCodes}
+use Rattle.meaning.proofs.Local.{Cmp, isLe, isGt, cmp}
 use Rattle.meaning.specs.declared.Entry.{Entry}
-use Rattle.unmarshal.specs.Steps.{Known, once, firstOf}
+use Rattle.unmarshal.specs.Steps.{firstOf}
 
 -- the types that known fields hold
 pub data Kept : Base → Type 0 where

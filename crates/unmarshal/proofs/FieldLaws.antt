@@ -1,11 +1,11 @@
 -- A header field by the ways through the code: padding, code, signature, what the code asks for, and the value.
 use Prim.Native.Nat.{ℕ, _+_, _-_, _≤_, _<_}
 use native.Mathlib.Omega.{arith}
-use mathlib.Core.Bool.{Bool, true, false}
-use mathlib.Core.List.{List, [], _∷_}
-use mathlib.Core.Path.{_≡_, refl, ap, sym, subst, _∙_}
+use mathlib.Core.Bool.{false}
+use mathlib.Core.List.{List}
+use mathlib.Core.Path.{_≡_, refl, ap, sym, _∙_}
 use lib.ListN.{length, take, drop, getD}
-use lib.Seq.{length-take-le, getD-take, getD-drop}
+use lib.Seq.{getD-take, getD-drop}
 use lib.Dec.{eqb, T, eqb-refl}
 use borrow.Author.Tests.{ne-eqb}
 use Rattle.meaning.specs.declared.Order.{Order}
@@ -15,11 +15,11 @@ use Rattle.meaning.specs.declared.Reached.the-variants.{At, Refused}
 use Rattle.meaning.specs.declared.Entry.the-variants.{Absent}
 use Rattle.meaning.specs.declared.Fault.the-variants.{NotEnoughBytes, WrongSignature, InvalidHeaderField}
 use Rattle.meaning.specs.Faults.{refusal}
-use Rattle.meaning.specs.Types.{Base, fix, u32, str, path, sig, Ty, base, arr, dict, struct, variant, Raw, Of, Var}
+use Rattle.meaning.specs.Types.{Base, fix, u32, str, path, sig, Ty, base, arr, dict, struct, variant, Raw, Var}
 use Rattle.meaning.specs.Signature.{code, parse, spell}
 use Rattle.meaning.specs.Places.{TypeAt, Typed}
 use Rattle.meaning.specs.Message.{Wants, nothing, exactly, anything, wants, Field}
-use Rattle.meaning.specs.Reader.{Res, got, fault, R, ret, fail, _>>=_, _>>_, check, bytes, reachedOf}
+use Rattle.meaning.specs.Reader.{Res, got, fault, R, ret, fail, _>>=_, check, bytes, reachedOf}
 use Rattle.meaning.specs.ReadValue.{padding, readSig, baseR, read, readVar}
 use Rattle.meaning.specs.ReadMessage.{andR, byteR, oneType, codeOf, ask, typeR, fieldR}
 use Rattle.meaning.proofs.Local.{bind-got, bind-fault, bind-inv, bytes-yes, bytes-no, refuse-alike}
@@ -35,8 +35,7 @@ use Rattle.validate_raw.proofs.WalkLaws.{past-inv, stopped-inv}
 use Rattle.unmarshal.specs.declared.FieldRead.{FieldRead}
 use Rattle.unmarshal.specs.declared.FieldRead.the-variants.{Read as Holds, Refused as NoField}
 use Rattle.unmarshal.specs.Steps.{oneTypeR, OneIs, Known, keptAs, knownTo, contentTo, fieldTo}
-use Rattle.unmarshal.proofs.CodeLaws.{Kept, number, string, object, spelling, kept, Asks, asks, known-asks}
-use Rattle.unmarshal.proofs.HeadLaws.{check-stop}
+use Rattle.unmarshal.proofs.CodeLaws.{Kept, number, string, object, spelling, Asks, asks, known-asks}
 
 -- what the code learns of a field's signature
 pub record One (o : Order) (buf : List ℕ) (end off f s : ℕ) : Type 0 where

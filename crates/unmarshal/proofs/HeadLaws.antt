@@ -1,9 +1,9 @@
 -- The first 12 bytes by the ways through the code.
-use Prim.Native.Nat.{ℕ, _+_, _≤_, _<_}
+use Prim.Native.Nat.{ℕ, _≤_, _<_}
 use native.Mathlib.Omega.{arith}
 use mathlib.Core.Bool.{Bool, true, false}
-use mathlib.Core.List.{List, [], _∷_}
-use mathlib.Core.Path.{_≡_, refl, ap, ap₂, sym, subst, _∙_}
+use mathlib.Core.List.{List}
+use mathlib.Core.Path.{_≡_, ap, ap₂, sym, subst, _∙_}
 use lib.ListN.{length, take, drop, getD}
 use lib.Seq.{getD-take}
 use lib.Dec.{T}
@@ -14,15 +14,13 @@ use Rattle.meaning.specs.declared.Fault.the-variants.{NotEnoughBytes, InvalidBy
 use Rattle.meaning.specs.Faults.{refusal}
 use Rattle.meaning.specs.Number.{load}
 use Rattle.meaning.specs.Message.{Fixed}
-use Rattle.meaning.specs.Reader.{Res, got, fault, stop, R, ret, _>>=_, _>>_, check, bytes}
+use Rattle.meaning.specs.Reader.{got, fault, R, ret, _>>=_, _>>_, check, bytes}
 use Rattle.meaning.specs.ReadMessage.{isMark, orderOf, isKind, kindOf, fixedIn, sizeIn, fixedR}
 use Rattle.meaning.proofs.Local.{bind-got, bind-fault, bytes-yes, bytes-no}
 use Rattle.meaning.proofs.Meets.{check-bind}
 use Rattle.util.proofs.Windows.{seen}
-use Rattle.unmarshal.specs.declared.Start.{Start}
-use Rattle.unmarshal.specs.declared.Began.{Began}
 use Rattle.unmarshal.specs.declared.Began.the-variants.{Read, Refused}
-use Rattle.unmarshal.specs.Steps.{startOf, beganOf}
+use Rattle.unmarshal.specs.Steps.{beganOf}
 
 abbrev pub kindThen : List ℕ → R (Fixed × ℕ)
 kindThen x = check (isKind (getD x 1 0)) InvalidMessageType 0 >> ret (fixedIn x, sizeIn x)

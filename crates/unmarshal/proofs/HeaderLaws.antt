@@ -1,53 +1,34 @@
 -- A message by the ways through the code: the first bytes, the table, 21, the padding and the body.
-use Prim.Native.Nat.{ℕ, _+_, _-_, _^_, _≤_, _<_}
+use Prim.Native.Nat.{ℕ, _+_, _-_, _≤_, _<_}
 use native.Mathlib.Omega.{arith}
 use mathlib.Core.Bool.{Bool, true, false}
-use mathlib.Core.List.{List, [], _∷_}
+use mathlib.Core.List.{List}
 use mathlib.Core.Path.{_≡_, refl, ap, sym, subst, _∙_}
 use lib.ListN.{length, take, drop, getD}
-use lib.Seq.{length-take-le}
 use lib.Dec.{T}
 use Rattle.meaning.specs.declared.Order.{Order}
 use Rattle.meaning.specs.declared.Refusal.{Refusal}
-use Rattle.meaning.specs.declared.Place.{Place}
-use Rattle.meaning.specs.declared.Reached.{Reached}
-use Rattle.meaning.specs.declared.Reached.the-variants.{At as Reaches, Refused as Stopped}
-use Rattle.meaning.specs.declared.Entry.{Entry}
-use Rattle.meaning.specs.declared.Entry.the-variants.{Absent, Number, Text}
 use Rattle.meaning.specs.declared.Fields.{Fields}
-use Rattle.meaning.specs.declared.Header.{Header}
-use Rattle.meaning.specs.declared.HeaderRead.{HeaderRead}
-use Rattle.meaning.specs.declared.HeaderRead.the-variants.{Read, Refused}
+use Rattle.meaning.specs.declared.HeaderRead.the-variants.{Refused}
 use Rattle.meaning.specs.declared.Fault.the-variants.{NotEnoughBytes, InvalidByteOrder, InvalidMessageType, InvalidHeaderFields}
 use Rattle.meaning.specs.Faults.{refusal}
-use Rattle.meaning.specs.Types.{Ty}
-use Rattle.meaning.specs.Signature.{parse, Parsed, types}
+use Rattle.meaning.specs.Signature.{parse}
 use Rattle.meaning.specs.Number.{load}
-use Rattle.meaning.specs.Value.{each, Each}
-use Rattle.meaning.specs.Message.{Field, encField, OkField, complete, text, bodySignature, Values, Fixed, Message, bodyAt, bodyOf, encodeAll, table}
-use Rattle.meaning.specs.Reader.{Res, got, fault, stop, R, ret, here, _>>=_, _>>_, check, bytes, many, reachedOf}
+use Rattle.meaning.specs.Message.{Field, complete, bodySignature, Fixed, Message}
+use Rattle.meaning.specs.Reader.{Res, got, fault, stop, R, ret, _>>=_, _>>_, check, bytes, many}
 use Rattle.meaning.specs.ReadValue.{padding, accept, lengthR}
 use Rattle.meaning.specs.ReadMessage.{toZero, atZero, inside, isMark, isKind, fixedIn, sizeIn, fixedR, fieldR, tableR, Opened, openR, bodyR, messageOf, readMessage}
-use Rattle.meaning.specs.Header.{entry, headerOf, headerFrom, readHeader}
-use Rattle.meaning.proofs.NumberLaws.{Bytes, bytes-take}
+use Rattle.meaning.specs.Header.{headerFrom, readHeader}
 use Rattle.meaning.proofs.Local.{bind-got, bind-fault, bind-inv, bind-is, Ran, ran, stopped, ret-inv, ret-no-fault, fault-inj, bytes-yes, bytes-no, leb-true, leb-false}
-use Rattle.meaning.proofs.Meets.{At, at-split, here-bind, check-bind, check-bind-inv, bytes-bind-inv}
-use Rattle.meaning.proofs.BaseMeets.{accept-got}
-use Rattle.meaning.proofs.Loop.{at-inv, refused-inv}
-use Rattle.meaning.proofs.MessageLocal.{atZero-got, inside-got, inside-end, fieldsR-bounded, fieldsR-full, tableR-local, bodyR-bounded, bodyR-full}
-use Rattle.meaning.proofs.MessageMeets.{tableRs, Opening, open-sound, body-sound}
-use Rattle.meaning.proofs.MessageDemands.{spelled-types}
-use Rattle.util.specs.Entry.{Window}
-use Rattle.util.proofs.Windows.{reached-within}
-use Rattle.meaning.proofs.ValueLocal.{padding-local}
+use Rattle.meaning.proofs.Meets.{here-bind, check-bind, check-bind-inv, bytes-bind-inv}
+use Rattle.meaning.proofs.MessageLocal.{inside-end, fieldsR-bounded, fieldsR-full}
 use Rattle.unmarshal.specs.declared.Start.{Start}
 use Rattle.unmarshal.specs.declared.Began.{Began}
 use Rattle.unmarshal.specs.declared.Began.the-variants.{Read as Begins, Refused as Unbegun}
 use Rattle.unmarshal.specs.declared.TableRead.{TableRead}
 use Rattle.unmarshal.specs.declared.TableRead.the-variants.{Read as Tabled, Refused as NoTable}
-use Rattle.unmarshal.specs.Steps.{startOf, beganOf, fieldsR, fieldsFrom, tableTo, Types, Held, partOf, Ending}
+use Rattle.unmarshal.specs.Steps.{startOf, beganOf, fieldsR, fieldsFrom, tableTo, Held}
 use Rattle.unmarshal.proofs.HeadLaws.{kindThen, markThen, check-stop}
-use Rattle.unmarshal.proofs.TextLaws.{cutOf, Before, text-is}
 
 abbrev pub after3 : Fixed × ℕ → List Field → R Opened
 after3 h fs = accept (parse (bodySignature fs)) 0 >>= λ ts. ret (h, (fs, ts))

@@ -1,15 +1,14 @@
 -- A known field's value by the ways through the code: the padding, the value, and what the header keeps of it.
-use Prim.Native.Nat.{ℕ, _+_, _-_, _≤_, _<_}
+use Prim.Native.Nat.{ℕ, _+_, _-_, _≤_}
 use native.Mathlib.Omega.{arith}
-use mathlib.Core.Bool.{Bool, true}
-use mathlib.Core.List.{List, [], _∷_}
-use mathlib.Core.Path.{_≡_, refl, ap, sym, subst, _∙_}
+use mathlib.Core.Bool.{true}
+use mathlib.Core.List.{List}
+use mathlib.Core.Path.{_≡_, ap, sym, subst, _∙_}
 use lib.ListN.{length, take, drop}
 use lib.Seq.{length-take-le}
 use Rattle.meaning.specs.declared.Order.{Order}
 use Rattle.meaning.specs.declared.Refusal.{Refusal}
 use Rattle.meaning.specs.declared.Place.{Place}
-use Rattle.meaning.specs.declared.Reached.{Reached}
 use Rattle.meaning.specs.declared.Reached.the-variants.{At, Refused}
 use Rattle.meaning.specs.declared.Entry.{Entry}
 use Rattle.meaning.specs.declared.Entry.the-variants.{Number, Text}
@@ -19,8 +18,8 @@ use Rattle.meaning.specs.Signature.{code, parse}
 use Rattle.meaning.specs.Number.{load}
 use Rattle.meaning.specs.Text.{noZero, isPath}
 use Rattle.meaning.specs.Message.{exactly, wants}
-use Rattle.meaning.specs.Reader.{Res, got, fault, R, ret, here, _>>=_, _>>_, check, bytes, reachedOf}
-use Rattle.meaning.specs.ReadValue.{valid, padding, readFix, readText, readSig, readPath, readG, accept, bareR, baseR}
+use Rattle.meaning.specs.Reader.{got, ret, _>>=_, _>>_, check, bytes, reachedOf}
+use Rattle.meaning.specs.ReadValue.{padding, readFix, readText, readSig, readPath, readG, accept, bareR, baseR}
 use Rattle.meaning.proofs.Local.{bind-got, bind-fault, bind-inv, ret-inv}
 use Rattle.meaning.proofs.Meets.{here-bind, bytes-bind-inv, check-bind-inv}
 use Rattle.meaning.proofs.BaseMeets.{accept-inv}

@@ -1,5 +1,5 @@
 -- The lookup by the ways through the code: a header, an entry for the code, and the part of the message that it says.
-use Prim.Native.Nat.{ℕ, _+_, _-_, _≤_, _<_}
+use Prim.Native.Nat.{ℕ, _+_, _-_, _≤_}
 use native.Mathlib.Omega.{arith}
 use mathlib.Core.Bool.{Bool, true, false, _||_}
 use mathlib.Core.List.{List}
@@ -16,13 +16,11 @@ use Rattle.meaning.specs.declared.Header.{Header}
 use Rattle.meaning.specs.declared.HeaderRead.{HeaderRead}
 use Rattle.meaning.specs.declared.HeaderRead.the-variants.{Read, Refused}
 use Rattle.meaning.specs.Text.{pick}
-use Rattle.meaning.specs.Value.{each}
-use Rattle.meaning.specs.Message.{Field, encField, text, Message, table}
+use Rattle.meaning.specs.Message.{Field, text, Message, table}
 use Rattle.meaning.specs.Reader.{Res, got, fault}
 use Rattle.meaning.specs.ReadMessage.{readMessage}
-use Rattle.meaning.specs.Header.{entry, headerOf, headerFrom, readHeader, holdsText, textFrom, lookup}
+use Rattle.meaning.specs.Header.{entry, headerOf, headerFrom, readHeader, holdsText, lookup}
 use Rattle.meaning.proofs.NumberLaws.{Bytes}
-use Rattle.meaning.proofs.Meets.{At}
 use Rattle.meaning.proofs.MessageLocal.{readMessage-local}
 use Rattle.meaning.proofs.MessageMeets.{message-sound, message-opens}
 use Rattle.unmarshal.specs.Steps.{fieldsFrom, textAt}

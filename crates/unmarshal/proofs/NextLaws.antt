@@ -1,7 +1,7 @@
 -- A message after its field table by the ways through the code: the padding, the body's end, its values, and the header that comes of it.
 use Prim.Native.Nat.{ℕ, _+_, _-_, _≤_, _<_}
 use native.Mathlib.Omega.{arith}
-use mathlib.Core.List.{List, [], _∷_}
+use mathlib.Core.List.{List, []}
 use mathlib.Core.Path.{_≡_, refl, ap, sym, subst, _∙_}
 use lib.ListN.{length, take, drop}
 use lib.Seq.{take-length}
@@ -13,7 +13,6 @@ use Rattle.meaning.specs.declared.Reached.the-variants.{At as Reaches, Refused 
 use Rattle.meaning.specs.declared.Entry.{Entry}
 use Rattle.meaning.specs.declared.Entry.the-variants.{Absent, Number, Text}
 use Rattle.meaning.specs.declared.Fields.{Fields}
-use Rattle.meaning.specs.declared.Header.{Header}
 use Rattle.meaning.specs.declared.HeaderRead.the-variants.{Read, Refused}
 use Rattle.meaning.specs.declared.Checked.{Checked}
 use Rattle.meaning.specs.declared.Checked.the-variants.{Accepted, Refused as Rejected}
@@ -24,10 +23,10 @@ use Rattle.meaning.specs.Types.{Ty}
 use Rattle.meaning.specs.Signature.{parse, Parsed, types}
 use Rattle.meaning.specs.Number.{store}
 use Rattle.meaning.specs.Value.{each, Each, OkLength}
-use Rattle.meaning.specs.Message.{Field, encField, OkField, complete, text, bodySignature, Values, Fixed, Message, bodyAt, bodyOf, encodeAll, table}
-use Rattle.meaning.specs.Reader.{Res, got, fault, stop, R, ret, _>>=_, _>>_, check, reachedOf}
+use Rattle.meaning.specs.Message.{Field, encField, OkField, complete, bodySignature, Fixed, Message, bodyAt, bodyOf, encodeAll, table}
+use Rattle.meaning.specs.Reader.{Res, got, fault, ret, _>>_, reachedOf}
 use Rattle.meaning.specs.ReadValue.{padding, accept, checkedOf}
-use Rattle.meaning.specs.ReadMessage.{atZero, tableR, inside, Opened, openR, bodyR, messageOf, readMessage, checkMessage}
+use Rattle.meaning.specs.ReadMessage.{atZero, tableR, inside, openR, bodyR, messageOf, readMessage, checkMessage}
 use Rattle.meaning.specs.Header.{entry, headerOf, headerFrom, readHeader}
 use Rattle.meaning.proofs.NumberLaws.{Bytes, length-store}
 use Rattle.meaning.proofs.Local.{bind-got, bind-fault}
@@ -40,7 +39,7 @@ use Rattle.meaning.proofs.MessageDemands.{spelled-types}
 use Rattle.unmarshal.specs.declared.Start.{Start}
 use Rattle.unmarshal.specs.declared.Part.{Part}
 use Rattle.unmarshal.specs.Steps.{startOf, fieldsFrom, Types, Held, partOf, Ending}
-use Rattle.unmarshal.proofs.HeaderLaws.{after1, after2, after3, bodyThen, inside-on, inside-over, opens, not-opened}
+use Rattle.unmarshal.proofs.HeaderLaws.{after2, after3, bodyThen, inside-on, inside-over, opens, not-opened}
 use Rattle.unmarshal.proofs.TextLaws.{cutOf, Before, text-is}
 
 -- the part of the message that an entry stands for, as the code cuts it out

@@ -1,12 +1,12 @@
 -- The field table turn by turn: what is left of the fields answers for all of them, with what the arrays hold of those that were read.
-use Prim.Native.Nat.{ℕ, zero, suc, _+_, _-_, _≤_, _<_}
+use Prim.Native.Nat.{ℕ, zero, suc, _+_, _≤_, _<_}
 use native.Mathlib.Omega.{arith}
 use native.Mathlib.Numerals.{add-one}
 use mathlib.Core.Bool.{Bool, true, false, _&&_}
 use mathlib.Core.List.{List, [], _∷_}
 use mathlib.Core.Path.{_≡_, refl, ap, ap₂, sym, subst, _∙_}
-use lib.ListN.{length, take, drop, getD, set, replicate}
-use lib.Seq.{length-take-le, getD-set-same, getD-set-other}
+use lib.ListN.{length, getD, set, replicate}
+use lib.Seq.{getD-set-same, getD-set-other}
 use lib.Dec.{leb, eqb, T, eqb→eq}
 use borrow.Author.Tests.{eq-eqb, ne-eqb}
 use Rattle.meaning.specs.declared.Order.{Order}
@@ -14,13 +14,13 @@ use Rattle.meaning.specs.declared.MessageType.{MessageType}
 use Rattle.meaning.specs.declared.MessageType.the-variants.{Call, Reply, Error, Signal}
 use Rattle.meaning.specs.declared.Refusal.{Refusal}
 use Rattle.meaning.specs.declared.Entry.{Entry}
-use Rattle.meaning.specs.declared.Entry.the-variants.{Absent, Number, Text}
+use Rattle.meaning.specs.declared.Entry.the-variants.{Absent}
 use Rattle.meaning.specs.declared.Fields.{Fields}
 use Rattle.meaning.specs.declared.Fault.the-variants.{InvalidHeaderFields}
 use Rattle.meaning.specs.Faults.{refusal}
-use Rattle.meaning.specs.Types.{Base, fix, str, path, sig, Ty, base, arr, dict, struct, variant, Var}
+use Rattle.meaning.specs.Types.{Base, fix, str, path, sig, base, arr, dict, struct, variant, Var}
 use Rattle.meaning.specs.Message.{Wants, nothing, exactly, anything, wants, Field, encField, count, complete, needed, every, knownCodes}
-use Rattle.meaning.specs.Reader.{Res, got, fault, R, ret, _>>=_, _>>_, check, many}
+use Rattle.meaning.specs.Reader.{Res, got, fault, ret, _>>=_, _>>_, check, many}
 use Rattle.meaning.specs.ReadMessage.{fieldR}
 use Rattle.meaning.specs.Header.{entryAs, entry}
 use Rattle.meaning.proofs.NumberLaws.{Bytes}
@@ -30,7 +30,6 @@ use Rattle.meaning.proofs.MessageLocal.{fieldR-local}
 use Rattle.meaning.proofs.MessageMeets.{fieldRs, ne-field}
 use Rattle.unmarshal.specs.declared.FieldRead.{FieldRead}
 use Rattle.unmarshal.specs.declared.FieldRead.the-variants.{Read as Holds, Refused as NoField}
-use Rattle.unmarshal.specs.declared.TableRead.{TableRead}
 use Rattle.unmarshal.specs.declared.TableRead.the-variants.{Read as Tabled, Refused as NoTable}
 use Rattle.unmarshal.specs.Steps.{entryTo, keptAs, fieldTo, firstOf, present, once, fieldsR, fieldsFrom, tableTo}
 use Rattle.unmarshal.proofs.CodeLaws.{Asks, asks, known-asks, other-asks}

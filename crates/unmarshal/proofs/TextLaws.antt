@@ -1,5 +1,5 @@
 -- What the header keeps of a field with a text leads back to that text inside the message.
-use Prim.Native.Nat.{ℕ, _+_, _-_, _≤_, _<_}
+use Prim.Native.Nat.{ℕ, _+_, _-_, _≤_}
 use native.Mathlib.Omega.{arith}
 use mathlib.Core.Bool.{Bool, true, false}
 use mathlib.Core.List.{List, [], _∷_, _++_}
@@ -9,7 +9,7 @@ use lib.Dec.{eqb}
 use Rattle.meaning.specs.declared.Order.{Order}
 use Rattle.meaning.specs.declared.Entry.{Entry}
 use Rattle.meaning.specs.declared.Entry.the-variants.{Absent, Number, Text}
-use Rattle.meaning.specs.Types.{Base, fix, str, path, sig, Ty, base, arr, dict, struct, variant, Raw, Var, alignBase}
+use Rattle.meaning.specs.Types.{Base, fix, str, path, sig, base, arr, dict, struct, variant, Raw, Var, alignBase}
 use Rattle.meaning.specs.Signature.{spell}
 use Rattle.meaning.specs.Number.{store}
 use Rattle.meaning.specs.Value.{_▹_, pad, raw, each, sized, bare, encBase, enc, encVar}

@@ -1,15 +1,15 @@
 -- What the functions that read a message answer, in terms of the readers of the meaning crate: the header keeps of each field what an entry holds.
 use Prim.Native.Nat.{ℕ, zero, suc, _+_, _-_, _≤_, _<_}
-use mathlib.Core.Bool.{Bool, true, false}
-use mathlib.Core.List.{List, [], _∷_}
+use mathlib.Core.Bool.{Bool}
+use mathlib.Core.List.{List}
 use mathlib.Core.Path.{_≡_}
 use lib.ListN.{length, take, drop, getD}
 use lib.Dec.{leb, eqb, T}
 use Rattle.meaning.specs.Text.{pick}
 use Rattle.meaning.specs.Types.{Base, fix, str, path, sig, Ty, base, arr, dict, struct, variant, Raw, Var}
-use Rattle.meaning.specs.Signature.{code, parse, Parsed, types, spellAll}
+use Rattle.meaning.specs.Signature.{code, parse, types, spellAll}
 use Rattle.meaning.specs.Places.{Spelled, TypeAt, shapeAll}
-use Rattle.meaning.specs.Reader.{Res, got, fault, R, ret, _>>=_, _>>_, check, many, reachedOf}
+use Rattle.meaning.specs.Reader.{Res, got, fault, R, ret, _>>=_, _>>_, check, many}
 use Rattle.meaning.specs.ReadValue.{readSig}
 use Rattle.meaning.specs.Message.{Wants, nothing, exactly, anything, wants, Field, complete, needed, every, knownCodes, Fixed}
 use Rattle.meaning.specs.ReadMessage.{oneType, fixedR, fieldR, tableR}

@@ -1,12 +1,8 @@
 -- Each turn reads two digits and writes one byte.
-use Prim.Native.Nat.{_+_, _-_, _≤_}
-use lib.ListN.{length}
+use Prim.Native.Nat.{_-_, _≤_}
 use borrow.Author.Needs.{needs}
 use Rattle.trial_messages.proofs.decode.Statement.{statement}
 use Rattle.trial_messages.proofs.decode.Tie as tie
-use Rattle.trial_messages.proofs.decode.Reads as reads
-use Rattle.trial_messages.proofs.decode.Lts as lts
-use Rattle.trial_messages.proofs.digit.Reads as digit-reads
 
 abbrev Inv-loop : tie.InvT-loop
 Inv-loop text from end out₀ n₀ i₀ out n i = (i ≤ end) × (n ≤ 512)

@@ -4,11 +4,6 @@ use lib.ListN.{length}
 use borrow.Author.Needs.{needs}
 use Rattle.trial_messages.proofs.lines.Statement.{statement}
 use Rattle.trial_messages.proofs.lines.Tie as tie
-use Rattle.trial_messages.proofs.lines.Reads as reads
-use Rattle.trial_messages.proofs.lines.Lts as lts
-use Rattle.trial_messages.proofs.decode.Reads as decode-reads
-use Rattle.trial_messages.proofs.line_end.Reads as line-end-reads
-use Rattle.trial_messages.proofs.say_first.Reads as say-first-reads
 
 abbrev Inv-loop : tie.InvT-loop
 Inv-loop text at₀ at = at ≤ length text + 1

@@ -1,12 +1,9 @@
 -- Each turn begins where the message before ended.
-use Prim.Native.Nat.{_+_, _-_, _≤_}
+use Prim.Native.Nat.{_-_, _≤_}
 use lib.ListN.{length}
 use borrow.Author.Needs.{needs}
 use Rattle.trial_messages.proofs.say_messages.Statement.{statement}
 use Rattle.trial_messages.proofs.say_messages.Tie as tie
-use Rattle.trial_messages.proofs.say_messages.Reads as reads
-use Rattle.trial_messages.proofs.say_messages.Lts as lts
-use Rattle.trial_messages.proofs.say_message.Reads as say-message-reads
 
 abbrev Inv-loop : tie.InvT-loop
 Inv-loop buf at₀ n₀ at n = (at ≤ length buf) × (n ≤ 4)

@@ -5,8 +5,6 @@ use Rattle.meaning.specs.Message.{wants}
 use Rattle.unmarshal.proofs.CodeLaws.{asked-is, asked-string}
 use Rattle.unmarshal.proofs.asked.Statement.{statement}
 use Rattle.unmarshal.proofs.asked.Tie as tie
-use Rattle.unmarshal.proofs.asked.Reads as reads
-use Rattle.unmarshal.proofs.asked.Lts as lts
 
 returns : tie.Need-returns
 unfolding wants

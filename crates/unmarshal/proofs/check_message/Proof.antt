@@ -1,12 +1,9 @@
 -- A header's length is the message's.
-use mathlib.Core.Path.{_≡_, refl, sym, _∙_, ap}
+use mathlib.Core.Path.{sym, _∙_, ap}
 use Rattle.unmarshal.proofs.NextLaws.{checkedFrom, check-is}
 use borrow.Author.Needs.{needs}
 use Rattle.unmarshal.proofs.check_message.Statement.{statement}
 use Rattle.unmarshal.proofs.check_message.Tie as tie
-use Rattle.unmarshal.proofs.check_message.Reads as reads
-use Rattle.unmarshal.proofs.check_message.Lts as lts
-use Rattle.unmarshal.proofs.unmarshal_header.Reads as unmarshal-header-reads
 
 unmarshal-header-requires : tie.Need-unmarshal-header-requires
 unmarshal-header-requires c κs = search needs

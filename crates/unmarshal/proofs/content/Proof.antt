@@ -1,5 +1,5 @@
 -- The signature, what the code asks for, and then the value by its type.
-use mathlib.Core.Path.{_≡_, sym, _∙_, ap}
+use mathlib.Core.Path.{_∙_, ap}
 use native.Mathlib.Omega.{arith}
 use Rattle.meaning.specs.Message.{wants}
 use Rattle.unmarshal.proofs.CodeLaws.{kept, other-asks, none-asks}
@@ -7,13 +7,6 @@ use Rattle.unmarshal.proofs.FieldLaws.{one-inside, one-shut, some, type
 use borrow.Author.Needs.{needs}
 use Rattle.unmarshal.proofs.content.Statement.{statement}
 use Rattle.unmarshal.proofs.content.Tie as tie
-use Rattle.unmarshal.proofs.content.Reads as reads
-use Rattle.unmarshal.proofs.content.Lts as lts
-use Rattle.meaning.proofs.refuse.Reads as refuse-reads
-use Rattle.unmarshal.proofs.asked.Reads as asked-reads
-use Rattle.unmarshal.proofs.known.Reads as known-reads
-use Rattle.unmarshal.proofs.one_type.Reads as one-type-reads
-use Rattle.validate_raw.proofs.value.Reads as value-reads
 
 one-type-requires : tie.Need-one-type-requires
 one-type-requires c κs = search needs

@@ -1,12 +1,8 @@
 -- By whether there was one before.
-use mathlib.Core.Path.{_≡_, refl}
-use Prim.Native.Nat.{ℕ, zero, suc}
 use Rattle.unmarshal.proofs.CodeLaws.{later-kept}
 use borrow.Author.Needs.{needs}
 use Rattle.unmarshal.proofs.first_of.Statement.{statement}
 use Rattle.unmarshal.proofs.first_of.Tie as tie
-use Rattle.unmarshal.proofs.first_of.Reads as reads
-use Rattle.unmarshal.proofs.first_of.Lts as lts
 
 returns : tie.Need-returns
 returns c = search needs

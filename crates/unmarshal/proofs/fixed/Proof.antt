@@ -1,18 +1,9 @@
 -- Each return is one way through the first 12 bytes.
 use mathlib.Core.Path.{sym, _∙_}
-use native.Mathlib.Omega.{arith}
 use Rattle.unmarshal.proofs.HeadLaws.{start-short, start-mark, start-kind, start-read}
 use borrow.Author.Needs.{needs}
 use Rattle.unmarshal.proofs.fixed.Statement.{statement}
 use Rattle.unmarshal.proofs.fixed.Tie as tie
-use Rattle.unmarshal.proofs.fixed.Reads as reads
-use Rattle.unmarshal.proofs.fixed.Lts as lts
-use Rattle.meaning.proofs.refuse.Reads as refuse-reads
-use Rattle.unmarshal.proofs.byteorder.Reads as byteorder-reads
-use Rattle.unmarshal.proofs.is_kind.Reads as is-kind-reads
-use Rattle.unmarshal.proofs.is_mark.Reads as is-mark-reads
-use Rattle.unmarshal.proofs.message_type.Reads as message-type-reads
-use Rattle.util.proofs.load32.Reads as load32-reads
 
 refuse-requires : tie.Need-refuse-requires
 refuse-requires c κs = search needs

@@ -2,8 +2,6 @@
 use borrow.Author.Tests.{le-leb, lt-leb}
 use Rattle.unmarshal.proofs.is_kind.Statement.{statement}
 use Rattle.unmarshal.proofs.is_kind.Tie as tie
-use Rattle.unmarshal.proofs.is_kind.Reads as reads
-use Rattle.unmarshal.proofs.is_kind.Lts as lts
 
 returns : tie.Need-returns
 returns c = simp (lt-leb _ _ (c .if1 .taken))

@@ -2,8 +2,6 @@
 use borrow.Author.Tests.{eq-eqb, ne-eqb}
 use Rattle.unmarshal.proofs.is_mark.Statement.{statement}
 use Rattle.unmarshal.proofs.is_mark.Tie as tie
-use Rattle.unmarshal.proofs.is_mark.Reads as reads
-use Rattle.unmarshal.proofs.is_mark.Lts as lts
 
 returns : tie.Need-returns
 returns c = simp (eq-eqb _ _ (c .if1 .taken))

@@ -1,5 +1,5 @@
 -- The padding, then the value, and the entry by the type's code.
-use mathlib.Core.Path.{_≡_, sym, _∙_, ap, subst}
+use mathlib.Core.Path.{sym, _∙_, ap, subst}
 use native.Mathlib.Omega.{arith}
 use Prim.Native.Nat.{ℕ}
 use lib.Dec.{T}
@@ -12,12 +12,6 @@ use Rattle.unmarshal.proofs.KnownLaws.{only, pad-stop, bare-stop, is-nu
 use borrow.Author.Needs.{needs}
 use Rattle.unmarshal.proofs.known.Statement.{statement}
 use Rattle.unmarshal.proofs.known.Tie as tie
-use Rattle.unmarshal.proofs.known.Reads as reads
-use Rattle.unmarshal.proofs.known.Lts as lts
-use Rattle.types.proofs.align.Reads as align-reads
-use Rattle.util.proofs.load32.Reads as load32-reads
-use Rattle.util.proofs.padded.Reads as padded-reads
-use Rattle.validate_raw.proofs.bare.Reads as bare-reads
 
 align-requires : tie.Need-align-requires
 align-requires c κs = search needs

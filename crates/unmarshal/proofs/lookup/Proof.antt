@@ -1,15 +1,10 @@
 -- The header's entry for the code says which part of the message it is; without one the fallback comes back.
-use mathlib.Core.Path.{_≡_, refl, sym, _∙_, ap}
 use native.Mathlib.Omega.{arith}
 use Rattle.unmarshal.proofs.TableLaws.{bytes-of}
 use Rattle.unmarshal.proofs.LookupLaws.{look-refused, look-text, look-number, look-absent}
 use borrow.Author.Needs.{needs}
 use Rattle.unmarshal.proofs.lookup.Statement.{statement}
 use Rattle.unmarshal.proofs.lookup.Tie as tie
-use Rattle.unmarshal.proofs.lookup.Reads as reads
-use Rattle.unmarshal.proofs.lookup.Lts as lts
-use Rattle.unmarshal.proofs.text_entry.Reads as text-entry-reads
-use Rattle.unmarshal.proofs.unmarshal_header.Reads as unmarshal-header-reads
 
 unmarshal-header-requires : tie.Need-unmarshal-header-requires
 unmarshal-header-requires c κs = search needs

@@ -1,5 +1,5 @@
 -- The text is read, and the grammar counts the types of the part of the buffer that holds it.
-use mathlib.Core.Path.{_≡_, sym, _∙_, ap}
+use mathlib.Core.Path.{sym, _∙_}
 use native.Mathlib.Omega.{arith}
 use Rattle.meaning.specs.declared.Order.the-variants.{Little}
 use Rattle.validate_raw.proofs.SpellLaws.{text-within}
@@ -7,11 +7,6 @@ use Rattle.unmarshal.proofs.OneLaws.{one-stop, one-refused, one-other, 
 use borrow.Author.Needs.{needs}
 use Rattle.unmarshal.proofs.one_type.Statement.{statement}
 use Rattle.unmarshal.proofs.one_type.Tie as tie
-use Rattle.unmarshal.proofs.one_type.Reads as reads
-use Rattle.unmarshal.proofs.one_type.Lts as lts
-use Rattle.meaning.proofs.refuse.Reads as refuse-reads
-use Rattle.signature.proofs.parse_description.Reads as parse-description-reads
-use Rattle.text.proofs.read_signature_text.Reads as read-signature-text-reads
 
 read-signature-text-requires : tie.Need-read-signature-text-requires
 read-signature-text-requires c κs = search needs

@@ -1,13 +1,10 @@
 -- For each type of message the tests are its list of codes.
 use Rattle.unmarshal.proofs.CodeLaws.{and-true}
-use mathlib.Core.Path.{_≡_, sym, _∙_, ap}
 use borrow.Author.Tests.{le-leb, lt-leb}
 use Rattle.unmarshal.specs.Steps.{present}
 use borrow.Author.Needs.{needs}
 use Rattle.unmarshal.proofs.required.Statement.{statement}
 use Rattle.unmarshal.proofs.required.Tie as tie
-use Rattle.unmarshal.proofs.required.Reads as reads
-use Rattle.unmarshal.proofs.required.Lts as lts
 
 enum-told : tie.Need-enum-told
 enum-told c = search needs

@@ -1,12 +1,10 @@
 -- By the entry's case.
-use mathlib.Core.Path.{_≡_, refl, sym, _∙_, ap, subst}
+use mathlib.Core.Path.{sym, ap, subst}
 use native.Mathlib.Omega.{arith}
 use Rattle.unmarshal.specs.Steps.{partOf, Ending}
 use borrow.Author.Needs.{needs}
 use Rattle.unmarshal.proofs.signature_part.Statement.{statement}
 use Rattle.unmarshal.proofs.signature_part.Tie as tie
-use Rattle.unmarshal.proofs.signature_part.Reads as reads
-use Rattle.unmarshal.proofs.signature_part.Lts as lts
 
 enum-known-entry : tie.Need-enum-known-entry
 enum-known-entry c = search needs

@@ -2,8 +2,6 @@
 use borrow.Author.Tests.{eq-eqb, ne-eqb}
 use Rattle.unmarshal.proofs.text_entry.Statement.{statement}
 use Rattle.unmarshal.proofs.text_entry.Tie as tie
-use Rattle.unmarshal.proofs.text_entry.Reads as reads
-use Rattle.unmarshal.proofs.text_entry.Lts as lts
 
 returns : tie.Need-returns
 returns c = simp (eq-eqb _ _ (c .if1 .taken))

@@ -1,6 +1,5 @@
 -- The loop takes the types of the signature one by one, and then looks whether the bytes are at their end.
-use Prim.Native.Nat.{ℕ, _≤_, _<_, _-_, _+_}
-use mathlib.Core.Path.{_≡_, refl, sym, _∙_, ap}
+use Prim.Native.Nat.{_≤_, _-_}
 use native.Mathlib.Omega.{arith}
 use lib.ListN.{length, take}
 use lib.Seq.{length-take-le}
@@ -8,10 +7,6 @@ use borrow.Author.Needs.{needs}
 use Rattle.unmarshal.proofs.BodyLaws.{Left, left-start, left-typed, left-past, left-stop, left-over, left-none}
 use Rattle.unmarshal.proofs.unmarshal_body.Statement.{statement}
 use Rattle.unmarshal.proofs.unmarshal_body.Tie as tie
-use Rattle.unmarshal.proofs.unmarshal_body.Reads as reads
-use Rattle.unmarshal.proofs.unmarshal_body.Lts as lts
-use Rattle.meaning.proofs.refuse.Reads as refuse-reads
-use Rattle.validate_raw.proofs.value.Reads as value-reads
 
 abbrev Inv-loop : tie.InvT-loop
 Inv-loop order sig buf end off i₀ at₀ i at = (i ≤ length sig) × (at ≤ end) × Left order sig (take end buf) off i at

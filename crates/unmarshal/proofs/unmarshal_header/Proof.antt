@@ -1,17 +1,8 @@
 -- The first bytes, the table's length, the fields, and what follows them.
-use mathlib.Core.Path.{_≡_, refl, sym, _∙_, ap}
-use native.Mathlib.Omega.{arith}
 use Rattle.unmarshal.proofs.HeaderLaws.{not-begun, begun, table-short, table-over, table-refused, table-read}
 use borrow.Author.Needs.{needs}
 use Rattle.unmarshal.proofs.unmarshal_header.Statement.{statement}
 use Rattle.unmarshal.proofs.unmarshal_header.Tie as tie
-use Rattle.unmarshal.proofs.unmarshal_header.Reads as reads
-use Rattle.unmarshal.proofs.unmarshal_header.Lts as lts
-use Rattle.meaning.proofs.refuse.Reads as refuse-reads
-use Rattle.unmarshal.proofs.fixed.Reads as fixed-reads
-use Rattle.unmarshal.proofs.unmarshal_header_fields.Reads as unmarshal-header-fields-reads
-use Rattle.unmarshal.proofs.unmarshal_next_message.Reads as unmarshal-next-message-reads
-use Rattle.util.proofs.load32.Reads as load32-reads
 
 fixed-requires : tie.Need-fixed-requires
 fixed-requires c κs = search needs

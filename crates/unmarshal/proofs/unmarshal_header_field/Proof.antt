@@ -1,18 +1,11 @@
 -- The padding, the code, and then what follows it.
-use mathlib.Core.Path.{_≡_, sym, _∙_, ap}
+use mathlib.Core.Path.{sym, _∙_}
 use native.Mathlib.Omega.{arith}
-use lib.ListN.{length, take}
 use lib.Seq.{length-take-le, getD-take}
-use Rattle.validate_raw.proofs.OpenLaws.{padded-within}
 use Rattle.unmarshal.proofs.FieldLaws.{field-stop, field-short, field-read}
 use borrow.Author.Needs.{needs}
 use Rattle.unmarshal.proofs.unmarshal_header_field.Statement.{statement}
 use Rattle.unmarshal.proofs.unmarshal_header_field.Tie as tie
-use Rattle.unmarshal.proofs.unmarshal_header_field.Reads as reads
-use Rattle.unmarshal.proofs.unmarshal_header_field.Lts as lts
-use Rattle.meaning.proofs.refuse.Reads as refuse-reads
-use Rattle.unmarshal.proofs.content.Reads as content-reads
-use Rattle.util.proofs.padded.Reads as padded-reads
 
 padded-requires : tie.Need-padded-requires
 padded-requires c κs = search needs

@@ -1,23 +1,17 @@
 -- The loop is `many` of the fields, and the arrays hold per code what the fields read so far say.
 use Rattle.meaning.proofs.NumberLaws.{bytes-take}
 use Rattle.unmarshal.proofs.TableLaws.{blank, bytes-of, few}
-use Prim.Native.Nat.{ℕ, _≤_, _<_, _-_, _+_}
-use mathlib.Core.Path.{_≡_, refl, sym, _∙_, ap, subst}
+use Prim.Native.Nat.{ℕ, _≤_, _-_, _+_}
+use mathlib.Core.Path.{_≡_, refl, sym, subst}
 use native.Mathlib.Omega.{arith}
 use lib.ListN.{length, getD, take, set, length-set}
 use lib.Seq.{length-take-le}
 use borrow.Author.Needs.{needs}
 use Rattle.meaning.specs.declared.Entry.{Entry}
 use Rattle.meaning.specs.declared.Entry.the-variants.{Absent}
-use Rattle.unmarshal.proofs.TableLaws.{Run, run-start, run-step, run-refused, run-incomplete, run-ended, came, stops, past, further}
+use Rattle.unmarshal.proofs.TableLaws.{Run, run-start, run-step, run-refused, run-incomplete, run-ended, came, stops, further}
 use Rattle.unmarshal.proofs.unmarshal_header_fields.Statement.{statement}
 use Rattle.unmarshal.proofs.unmarshal_header_fields.Tie as tie
-use Rattle.unmarshal.proofs.unmarshal_header_fields.Reads as reads
-use Rattle.unmarshal.proofs.unmarshal_header_fields.Lts as lts
-use Rattle.meaning.proofs.refuse.Reads as refuse-reads
-use Rattle.unmarshal.proofs.first_of.Reads as first-of-reads
-use Rattle.unmarshal.proofs.unmarshal_header_field.Reads as unmarshal-header-field-reads
-use Rattle.unmarshal.proofs.validate_header_fields.Reads as validate-header-fields-reads
 
 abbrev Inv-loop : tie.InvT-loop
 Inv-loop order kind buf end first entries₀ counts₀ at₀ entries counts at = (first ≤ at) × (at ≤ end) × (length entries ≡ 10) × (length counts ≡ 10) × ((k : ℕ) → getD counts k 0 ≤ at) × Run order (take end buf) (end - first) first entries counts at

@@ -1,19 +1,12 @@
 -- Each return is one way through what follows the field table.
-use mathlib.Core.Path.{_≡_, refl, sym, _∙_, ap}
+use mathlib.Core.Path.{refl, sym, _∙_}
 use native.Mathlib.Omega.{arith}
-use lib.ListN.{length}
 use Rattle.validate_raw.proofs.OpenLaws.{padded-within}
 use Rattle.unmarshal.proofs.TableLaws.{bytes-of}
 use Rattle.unmarshal.proofs.NextLaws.{held-within, next-stop, sig-ends, sig-within, sig-types, body-over, body-refused, body-read}
 use borrow.Author.Needs.{needs}
 use Rattle.unmarshal.proofs.unmarshal_next_message.Statement.{statement}
 use Rattle.unmarshal.proofs.unmarshal_next_message.Tie as tie
-use Rattle.unmarshal.proofs.unmarshal_next_message.Reads as reads
-use Rattle.unmarshal.proofs.unmarshal_next_message.Lts as lts
-use Rattle.meaning.proofs.refuse.Reads as refuse-reads
-use Rattle.unmarshal.proofs.signature_part.Reads as signature-part-reads
-use Rattle.unmarshal.proofs.unmarshal_body.Reads as unmarshal-body-reads
-use Rattle.util.proofs.padded.Reads as padded-reads
 
 padded-requires : tie.Need-padded-requires
 padded-requires c κs = (record { inside = held-within _ _ _ _ (c .before .pre); held = omega arith }, tt)

@@ -1,19 +1,16 @@
 -- The loop looks at each known code, and stops at the first that was seen twice.
 use Prim.Native.Nat.{ℕ, _≤_, _<_, _-_}
-use mathlib.Core.Path.{_≡_, sym, _∙_, ap, subst}
+use mathlib.Core.Path.{_≡_, sym}
 use mathlib.Core.Bool.{true}
 use native.Mathlib.Omega.{arith}
 use lib.ListN.{getD}
 use lib.Dec.{leb}
 use borrow.Author.Needs.{needs}
-use borrow.Author.Count.{below-more}
 use Rattle.meaning.proofs.Local.{leb-true, leb-false}
 use Rattle.unmarshal.specs.Steps.{once}
 use Rattle.unmarshal.proofs.CodeLaws.{all-known, one-known, one-more}
 use Rattle.unmarshal.proofs.unrepeated.Statement.{statement}
 use Rattle.unmarshal.proofs.unrepeated.Tie as tie
-use Rattle.unmarshal.proofs.unrepeated.Reads as reads
-use Rattle.unmarshal.proofs.unrepeated.Lts as lts
 
 abbrev Inv-loop : tie.InvT-loop
 Inv-loop counts c₀ c = (1 ≤ c) × (c ≤ 10) × ((k : ℕ) → 1 ≤ k → k < c → leb (getD counts k 0) 1 ≡ true)

@@ -1,13 +1,7 @@
 -- Both tests.
-use mathlib.Core.Path.{_≡_, refl, sym, _∙_, ap}
-use mathlib.Core.Bool.{_&&_}
 use borrow.Author.Needs.{needs}
 use Rattle.unmarshal.proofs.validate_header_fields.Statement.{statement}
 use Rattle.unmarshal.proofs.validate_header_fields.Tie as tie
-use Rattle.unmarshal.proofs.validate_header_fields.Reads as reads
-use Rattle.unmarshal.proofs.validate_header_fields.Lts as lts
-use Rattle.unmarshal.proofs.required.Reads as required-reads
-use Rattle.unmarshal.proofs.unrepeated.Reads as unrepeated-reads
 
 required-requires : tie.Need-required-requires
 required-requires c κs = search needs
