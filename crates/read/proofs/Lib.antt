@@ -1,4 +1,5 @@
 pub mod Signs
 pub mod FixedTypes
 pub mod Ways
+pub mod Extends
 pub mod Exact

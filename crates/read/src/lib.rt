@@ -10,6 +10,7 @@ ghost use Rattle.meaning.specs.FixedValue.{signed, double as doubleOf, fixedVal
 ghost use Rattle.meaning.specs.Writers.{isAlignment};
 ghost use Rattle.util.specs.Loaded.{Loaded};
 ghost use Rattle.read.specs.Coded.{Coded, Holds};
+ghost use Rattle.read.specs.Bits.{letterOf, extended as extendedOf, doubleBits, bitsOf};
 use meaning::Fault;
 use meaning::FixedRead;
 use meaning::FixedValue;
@@ -137,5 +138,60 @@ pub fn unmarshal_fixed(order: Order, offset: Place, buf: &[u8], sig: &[u8]) -> F
     match util::padded(buf, buf.len(), off, width) {
         Reached::At(place) => bare(order, place.0, buf, code),
         Reached::Refused(refusal) => FixedRead::Refused(refusal),
+    }
+}
+
+// The letter of a value's type; `N` for a NaN.
+pub fn letter(v: FixedValue) -> u8
+    ensures { λ r. ⌜ r ≡ letterOf v ⌝ }
+{
+    match v {
+        FixedValue::Byte(_) => b'y',
+        FixedValue::Boolean(_) => b'b',
+        FixedValue::Int16(_) => b'n',
+        FixedValue::Uint16(_) => b'q',
+        FixedValue::Int32(_) => b'i',
+        FixedValue::Uint32(_) => b'u',
+        FixedValue::Int64(_) => b'x',
+        FixedValue::Uint64(_) => b't',
+        FixedValue::Double(_) => b'd',
+        FixedValue::Nan(_) => b'N',
+        FixedValue::UnixFd(_) => b'h',
+    }
+}
+
+fn extended(n: i64) -> u64
+    ensures { λ r. ⌜ r ≡ extendedOf n ⌝ }
+{
+    if n < 0 {
+        0xffff_ffff_ffff_ffff - ((-1 - n) as u64)
+    } else {
+        n as u64
+    }
+}
+
+// A NaN stands by its bits in a case of its own, so no double that was read is one.
+fn double_bits(x: f64) -> u64
+    ensures { λ r. ⌜ r ≡ doubleBits x ⌝ }
+{
+    if x == x { f64::to_bits(x) } else { 0 }
+}
+
+// A value's bits, its sign carried on to all 64.
+pub fn bits(v: FixedValue) -> u64
+    ensures { λ r. ⌜ r ≡ bitsOf v ⌝ }
+{
+    match v {
+        FixedValue::Byte(n) => n as u64,
+        FixedValue::Boolean(b) => b as u64,
+        FixedValue::Int16(n) => extended(n as i64),
+        FixedValue::Uint16(n) => n as u64,
+        FixedValue::Int32(n) => extended(n as i64),
+        FixedValue::Uint32(n) => n as u64,
+        FixedValue::Int64(n) => extended(n),
+        FixedValue::Uint64(n) => n,
+        FixedValue::Double(x) => double_bits(x),
+        FixedValue::Nan(n) => n,
+        FixedValue::UnixFd(n) => n as u64,
     }
 }
