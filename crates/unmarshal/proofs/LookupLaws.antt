@@ -12,9 +12,6 @@ use Rattle.meaning.specs.declared.Place.{Place}
 use Rattle.meaning.specs.declared.Length.{Length}
 use Rattle.meaning.specs.declared.Entry.{Entry}
 use Rattle.meaning.specs.declared.Entry.the-variants.{Absent, Number, Text}
-use Rattle.meaning.specs.declared.Header.{Header}
-use Rattle.meaning.specs.declared.HeaderRead.{HeaderRead}
-use Rattle.meaning.specs.declared.HeaderRead.the-variants.{Read, Refused}
 use Rattle.meaning.specs.Text.{pick}
 use Rattle.meaning.specs.Message.{Field, text, Message, table}
 use Rattle.meaning.specs.Reader.{Res, got, fault}
@@ -23,8 +20,9 @@ use Rattle.meaning.specs.Header.{entry, headerOf, headerFrom, readHeader, holds
 use Rattle.meaning.proofs.NumberLaws.{Bytes}
 use Rattle.meaning.proofs.MessageLocal.{readMessage-local}
 use Rattle.meaning.proofs.MessageMeets.{message-sound, message-opens}
-use Rattle.unmarshal.specs.Steps.{fieldsFrom, textAt}
-use Rattle.unmarshal.proofs.TextLaws.{cutOf, Before, before-more, text-is}
+use Rattle.unmarshal.specs.Steps.{fieldsFrom}
+use Rattle.unmarshal.specs.Found.{textAt, foundIn, cutOf}
+use Rattle.unmarshal.proofs.TextLaws.{Before, before-more, text-is}
 use Rattle.unmarshal.proofs.NextLaws.{each-at}
 
 -- a code that holds a text, with its entry, or none
@@ -50,64 +48,57 @@ chosen o fs c = go (eqb c 1) (eqb c 2) (eqb c 3) (eqb c 4) (eqb c 6) (eqb c 7) (
     go false false false false false false true e1 e2 e3 e4 e6 e7 e8 = is (at 8 e8)
     go false false false false false false false e1 e2 e3 e4 e6 e7 e8 = isnt
 
-module _ (b : List ℕ) (c : ℕ) (d : List ℕ) (q : HeaderRead) (answers : q ≡ readHeader b) where
-  pub look-refused : (x : Refusal) → q ≡ Refused x → d ≡ lookup b c d
-  unfolding readHeader lookup
-  look-refused x k = go (readMessage b 0) refl (sym answers ∙ k)
+-- what an entry says of the lookup's answer
+pub record Looked (b : List ℕ) (c : ℕ) (d : List ℕ) (e : Entry) : Type 0 where
+  pub cut : lookup b c d ≡ cutOf d b e
+  pub within : Before (length b) e
+
+module _ (b : List ℕ) (c : ℕ) (d : List ℕ) where
+  refused : (x : Refusal) → readMessage b 0 ≡ fault x → Looked b c d Absent
+  unfolding lookup
+  refused x z = decide (holdsText c) refl
     where
-      go : (y : Res Message) → readMessage b 0 ≡ y → headerFrom y ≡ Refused x → d ≡ lookup b c d
-      go (got m e) z w = absurd (let u : _≡_ {A = ℕ} 0 1 = cc in omega arith)
-      go (fault v) z w = decide (holdsText c) refl
-        where
-          decide : (a : Bool) → holdsText c ≡ a → d ≡ lookup b c d
-          decide true r = rw (r, lookup, z)
-          decide false r = rw (r, lookup)
+      decide : (a : Bool) → holdsText c ≡ a → Looked b c d Absent
+      decide true r = record { cut = rw (r, lookup, z); within = tt }
+      decide false r = record { cut = rw (r, lookup); within = tt }
 
-  -- what the entry that was chosen says of the answer
-  record Looked (e : Entry) : Type 0 where
-    pub cut : lookup b c d ≡ cutOf d b e
-    pub within : Before (length b) e
+  accepted : Bytes b → (m : Message) (n : ℕ) → readMessage b 0 ≡ got m n → Looked b c d (textAt c (headerOf m n .fields))
+  unfolding lookup
+  accepted y m n r =
+      let s = message-sound b y m n r in
+      let o = message-opens b m n (s .0) (s .1) in
+      let t = each-at b (m .fixed .order) (m .fields) (12 + length (table (m .fixed .order) (m .fields) 12)) (o .0 .second) in
+      let l = readMessage-local .bound b 0 m n (omega arith) r .1 in
+      let i = text-is b (m .fixed .order) d c (m .fields) 16 (12 + length (table (m .fixed .order) (m .fields) 12)) t in
+      let near : 12 + length (table (m .fixed .order) (m .fields) 12) ≤ length b = omega (arith, o .0 .third .end, o .1 .end) in
+      decide (i .0) (before-more b (12 + length (table (m .fixed .order) (m .fields) 12)) (length b) (entry (m .fixed .order) c (m .fields) 16) near (i .1)) (holdsText c) (textAt c (headerOf m n .fields)) refl (chosen (m .fixed .order) (m .fields) c)
+    where
+      decide : text d c (m .fields) ≡ cutOf d b (entry (m .fixed .order) c (m .fields) 16) → Before (length b) (entry (m .fixed .order) c (m .fields) 16)
+          → (a : Bool) (e : Entry) → holdsText c ≡ a → Chosen (m .fixed .order) (m .fields) c a e → Looked b c d e
+      decide i j true e z (is u) = record { cut = (let v : lookup b c d ≡ text d c (m .fields) = rw (z, lookup, r) in v) ∙ i ∙ sym (ap (cutOf d b) u); within = subst (Before (length b)) (sym u) j }
+      decide i j false e z isnt = record { cut = (let v : lookup b c d ≡ d = rw (z, lookup) in v); within = tt }
 
-  module _ (y : Bytes b) (h : Header) (k : q ≡ Read h) where
-    found : (m : Message) (n : ℕ) → readMessage b 0 ≡ got m n → h ≡ headerOf m n → Looked (textAt c (h .fields))
-    unfolding lookup
-    found m n r w =
-        let s = message-sound b y m n r in
-        let o = message-opens b m n (s .0) (s .1) in
-        let t = each-at b (m .fixed .order) (m .fields) (12 + length (table (m .fixed .order) (m .fields) 12)) (o .0 .second) in
-        let l = readMessage-local .bound b 0 m n (omega arith) r .1 in
-        let i = text-is b (m .fixed .order) d c (m .fields) 16 (12 + length (table (m .fixed .order) (m .fields) 12)) t in
-        let near : 12 + length (table (m .fixed .order) (m .fields) 12) ≤ length b = omega (arith, o .0 .third .end, o .1 .end) in
-        subst (λ (x : Header). Looked (textAt c (x .fields))) (sym w) (decide m n r (i .0) (before-more b (12 + length (table (m .fixed .order) (m .fields) 12)) (length b) (entry (m .fixed .order) c (m .fields) 16) near (i .1)) (chosen (m .fixed .order) (m .fields) c))
-      where
-        decide : (m : Message) (n : ℕ) → readMessage b 0 ≡ got m n → text d c (m .fields) ≡ cutOf d b (entry (m .fixed .order) c (m .fields) 16) → Before (length b) (entry (m .fixed .order) c (m .fields) 16)
-            → Chosen (m .fixed .order) (m .fields) c (holdsText c) (textAt c (fieldsFrom (m .fixed .order) (m .fields) 16)) → Looked (textAt c (fieldsFrom (m .fixed .order) (m .fields) 16))
-        decide m n r i j g = go (holdsText c) (textAt c (fieldsFrom (m .fixed .order) (m .fields) 16)) refl g
-          where
-            go : (a : Bool) (e : Entry) → holdsText c ≡ a → Chosen (m .fixed .order) (m .fields) c a e → Looked e
-            go true e z (is u) = record { cut = (let v : lookup b c d ≡ text d c (m .fields) = rw (z, lookup, r) in v) ∙ i ∙ sym (ap (cutOf d b) u); within = subst (Before (length b)) (sym u) j }
-            go false e z isnt = record { cut = (let v : lookup b c d ≡ d = rw (z, lookup) in v); within = tt }
+  -- the entry that is found stands for what the lookup answers
+  pub found-is : Bytes b → Looked b c d (foundIn (readHeader b) c)
+  unfolding readHeader
+  found-is y = go (readMessage b 0) refl
+    where
+      go : (x : Res Message) → readMessage b 0 ≡ x → Looked b c d (foundIn (headerFrom x) c)
+      go (got m n) z = accepted y m n z
+      go (fault v) z = refused v z
 
-    looked : Looked (textAt c (h .fields))
-    unfolding readHeader
-    looked = go (readMessage b 0) refl (sym answers ∙ k)
-      where
-        go : (x : Res Message) → readMessage b 0 ≡ x → headerFrom x ≡ Read h → Looked (textAt c (h .fields))
-        go (got m n) z w = found m n z (let u : headerOf m n ≡ h = cc in sym u)
-        go (fault v) z w = absurd (let u : _≡_ {A = ℕ} 0 1 = cc in omega arith)
+  module _ (y : Bytes b) (e : Entry) (finds : e ≡ foundIn (readHeader b) c) where
+    here : Looked b c d e
+    here = subst (Looked b c d) (sym finds) (found-is y)
 
-    module _ (e : Entry) (chose : e ≡ textAt c (h .fields)) where
-      here : Looked e
-      here = subst Looked (sym chose) looked
+    pub look-text : (p : Place) (l : Length) → e ≡ Text p l → (p .0 + l .0 ≤ length b) × (take (p .0 + l .0 - p .0) (drop (p .0) b) ≡ lookup b c d)
+    look-text p l g =
+        let i = subst (Looked b c d) g here in
+        let z : p .0 + l .0 - p .0 ≡ l .0 = omega arith in
+        (i .within, ap (λ (n : ℕ). take n (drop (p .0) b)) z ∙ sym (i .cut))
 
-      pub look-text : (p : Place) (l : Length) → e ≡ Text p l → (p .0 + l .0 ≤ length b) × (take (p .0 + l .0 - p .0) (drop (p .0) b) ≡ lookup b c d)
-      look-text p l g =
-          let i = subst Looked g here in
-          let z : p .0 + l .0 - p .0 ≡ l .0 = omega arith in
-          (i .within, ap (λ (n : ℕ). take n (drop (p .0) b)) z ∙ sym (i .cut))
+    pub look-number : (n : ℕ) → e ≡ Number n → d ≡ lookup b c d
+    look-number n g = sym (subst (Looked b c d) g here .cut)
 
-      pub look-number : (n : ℕ) → e ≡ Number n → d ≡ lookup b c d
-      look-number n g = sym (subst Looked g here .cut)
-
-      pub look-absent : e ≡ Absent → d ≡ lookup b c d
-      look-absent g = sym (subst Looked g here .cut)
+    pub look-absent : e ≡ Absent → d ≡ lookup b c d
+    look-absent g = sym (subst (Looked b c d) g here .cut)

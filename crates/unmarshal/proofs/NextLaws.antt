@@ -40,7 +40,8 @@ use Rattle.unmarshal.specs.declared.Start.{Start}
 use Rattle.unmarshal.specs.declared.Part.{Part}
 use Rattle.unmarshal.specs.Steps.{startOf, fieldsFrom, Types, Held, partOf, Ending}
 use Rattle.unmarshal.proofs.HeaderLaws.{after2, after3, bodyThen, inside-on, inside-over, opens, not-opened}
-use Rattle.unmarshal.proofs.TextLaws.{cutOf, Before, text-is}
+use Rattle.unmarshal.specs.Found.{cutOf}
+use Rattle.unmarshal.proofs.TextLaws.{Before, text-is}
 
 -- the part of the message that an entry stands for, as the code cuts it out
 part-cut : (b : List ℕ) (e : Entry) → take (partOf e .1 - partOf e .0) (drop (partOf e .0) b) ≡ cutOf [] b e

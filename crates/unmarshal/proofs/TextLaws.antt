@@ -15,15 +15,10 @@ use Rattle.meaning.specs.Number.{store}
 use Rattle.meaning.specs.Value.{_▹_, pad, raw, each, sized, bare, encBase, enc, encVar}
 use Rattle.meaning.specs.Message.{Field, encField, textOf, text}
 use Rattle.meaning.specs.Header.{entryAs, entry}
+use Rattle.unmarshal.specs.Found.{cutOf}
 use Rattle.meaning.proofs.Meets.{At, at-split, at-read, then-at}
 
--- what an entry stands for: a part of the message, or d where it is no text
-abbrev pub cutOf : List ℕ → List ℕ → Entry → List ℕ
-cutOf d b Absent = d
-cutOf d b (Number n) = d
-cutOf d b (Text p l) = take (l .0) (drop (p .0) b)
-
--- and it lies before e
+-- a text lies before e
 abbrev pub Before : ℕ → Entry → Type 0
 Before e Absent = Unit {0}
 Before e (Number n) = Unit {0}

@@ -153,10 +153,3 @@ pub record Held (b : List ℕ) (start : Start) (fields : Fields) (end : ℕ) : T
   pub tabled : tableR (head .0 .order) b 12 ≡ got list end
   pub whole : T (complete (head .0 .kind) list)
   pub kept : fields ≡ fieldsFrom (head .0 .order) list 16
-
--- the entry of a field that holds a text, by its code
-abbrev pub textAt : ℕ → Fields → Entry
-textAt c f =
-    pick (eqb c 1) (f .object)
-    (pick (eqb c 2) (f .interface)
-    (pick (eqb c 3) (f .member) (pick (eqb c 4) (f .«error_name») (pick (eqb c 6) (f .destination) (pick (eqb c 7) (f .sender) (pick (eqb c 8) (f .signature) Absent))))))

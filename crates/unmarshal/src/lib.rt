@@ -12,7 +12,8 @@ ghost use Rattle.meaning.specs.Signature.{code as codeOf, parse, types};
 ghost use Rattle.meaning.specs.ReadMessage.{isMark, orderOf, isKind, kindOf, andR, typeR, fixedR, fieldR, bodyR, checkMessage};
 ghost use Rattle.meaning.specs.Header.{readHeader, lookup as lookupOf};
 ghost use Rattle.util.specs.Entry.{Window};
-ghost use Rattle.unmarshal.specs.Steps.{beganOf, OneIs, Known, knownTo, contentTo, fieldTo, firstOf, present, once, fieldsR, tableTo, Types, Ending, partOf, Held, textAt};
+ghost use Rattle.unmarshal.specs.Steps.{beganOf, OneIs, Known, knownTo, contentTo, fieldTo, firstOf, present, once, fieldsR, tableTo, Types, Ending, partOf, Held};
+ghost use Rattle.unmarshal.specs.Found.{textAt, foundIn};
 use meaning::Checked;
 use meaning::Counted;
 use meaning::Entry;
@@ -474,23 +475,30 @@ fn text_entry(fields: Fields, code: u8) -> Entry
     }
 }
 
-// The text of a header field inside the message, or the fallback where there is none.
-pub fn lookup<'a>(message: &'a [u8], code: u8, fallback: &'a [u8]) -> &'a [u8]
-    ensures { λ r. ⌜ now r ≡ lookupOf (now (message .entry)) code (now (fallback .entry)) ⌝ }
+// The entry of the header field with this code, if it holds a text: none in a refused message.
+pub fn find(message: &[u8], code: u8) -> Entry
+    ensures { λ r. ⌜ r ≡ foundIn (readHeader (now (message .entry))) code ⌝ }
 {
     match unmarshal_header(message) {
         HeaderRead::Read(header) => {
             let fields = header.fields;
-            match text_entry(fields, code) {
-                Entry::Text(place, length) => {
-                    let first = place.0;
-                    let past = first + length.0;
-                    &message[first..past]
-                }
-                Entry::Number(_) => fallback,
-                Entry::Absent => fallback,
-            }
+            text_entry(fields, code)
         }
-        HeaderRead::Refused(_) => fallback,
+        HeaderRead::Refused(_) => Entry::Absent,
+    }
+}
+
+// The text of a header field inside the message, or the fallback where there is none.
+pub fn lookup<'a>(message: &'a [u8], code: u8, fallback: &'a [u8]) -> &'a [u8]
+    ensures { λ r. ⌜ now r ≡ lookupOf (now (message .entry)) code (now (fallback .entry)) ⌝ }
+{
+    match find(message, code) {
+        Entry::Text(place, length) => {
+            let first = place.0;
+            let past = first + length.0;
+            &message[first..past]
+        }
+        Entry::Number(_) => fallback,
+        Entry::Absent => fallback,
     }
 }
