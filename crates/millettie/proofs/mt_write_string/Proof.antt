@@ -1,0 +1,20 @@
+-- The write in the named order, handed out.
+use mathlib.Core.Path.{sym, ap, subst, _∙_}
+use Rattle.meaning.specs.declared.Order.{Order}
+use Rattle.meaning.specs.Writers.{writeAt, stringBytes}
+use Rattle.millettie.specs.Answers.{Past, writtenOf}
+use Rattle.millettie.proofs.Writes.{write-past}
+use borrow.Author.Needs.{needs}
+use Rattle.millettie.proofs.mt_write_string.Statement.{statement}
+use Rattle.millettie.proofs.mt_write_string.Tie as tie
+
+of-written-requires : tie.Need-of-written-requires
+of-written-requires c κs = subst (Past (c .before .before .before .before .before .before .before .args .place)) (sym (c .before .before .write-string .ensures .0)) (write-past (c .before .before .before .before .before .before .before .args .buf .now) (c .before .before .before .before .before .before .before .args .place) _)
+
+returns : tie.Need-returns
+returns c = (c .of-written .ensures ∙ ap (writtenOf (c .before .before .before .before .before .before .before .before .args .place)) (c .before .before .before .write-string .ensures .0 ∙ ap (λ (o : Order). writeAt (stringBytes o (c .before .before .before .before .before .before .before .before .args .text .now)) (c .before .before .before .before .before .before .before .before .args .buf .now) (c .before .before .before .before .before .before .before .before .args .place) .answer) (c .before .before .before .before .before .order .ensures)), c .before .before .before .write-string .ensures .1 ∙ ap (λ (o : Order). writeAt (stringBytes o (c .before .before .before .before .before .before .before .before .args .text .now)) (c .before .before .before .before .before .before .before .before .args .buf .now) (c .before .before .before .before .before .before .before .before .args .place) .after) (c .before .before .before .before .before .order .ensures))
+
+pub mt-write-string-spec : {M : Type 1} → statement M
+mt-write-string-spec =
+    tie.close
+    (tie.spec (λ c. search needs) (λ c. search needs) of-written-requires (λ c. search needs) returns)
