@@ -19,3 +19,4 @@ pub mod ValueMeets
 pub mod Rules
 pub mod Grows
 pub mod Loop
+pub mod OneAnswer

@@ -1,1 +1,2 @@
 pub mod Writes
+pub mod Demands
