@@ -1,15 +1,17 @@
--- "Show that no second answer fits it": a contract, as the generated `Learnt` of a function states it, leaves one answer for what was passed.
+-- "Show that no second answer fits it": a contract, as the generated `Learnt` of a function states it, leaves one answer to what was passed.
 use Prim.Native.Nat.{ℕ}
 use mathlib.Core.List.{List}
 use mathlib.Core.Path.{_≡_, sym, _∙_}
-use borrow.Fn.Kinds.{PK, RK, Dens, Out, endedOf}
-use contract.Lifetimes.{Lfts}
-use denote.Triple.Clauses.{AtExit}
 use Rattle.meaning.proofs.number.Reads as number
 use Rattle.meaning.proofs.refuse.Reads as refuse
 
-pub OneAnswer : {n : ℕ} {ps : List (PK n)} {r : RK n} → Out n ps r → Type 0
-OneAnswer {n} {ps} {r} L = (κs : Lfts n) (a : Dens κs ps) (x y : r .resT κs .Denot) (s t : AtExit (endedOf n ps r) κs) → L κs a x s → L κs a y t → x ≡ y
+-- of lifetimes, arguments, the answer and the arguments at exit
+abbrev pub OneAnswer : {K : Type 0} {A R S : K → Type 0} → ((κs : K) → A κs → R κs → S κs → Type 0) → Type 0
+OneAnswer {K} {A} {R} {S} L = (κs : K) (a : A κs) (x y : R κs) (s t : S κs) → L κs a x s → L κs a y t → x ≡ y
+
+-- the same of the bytes of a buffer that was lent
+abbrev pub OneBuffer : {K : Type 0} {A R S : K → Type 0} → ((κs : K) → A κs → R κs → S κs → Type 0) → ((κs : K) → S κs → List ℕ) → Type 0
+OneBuffer {K} {A} {R} {S} L left = (κs : K) (a : A κs) (x y : R κs) (s t : S κs) → L κs a x s → L κs a y t → left κs s ≡ left κs t
 
 -- where the contract is an equation with a definition of what was passed
 pub both : {A : Type 0} {x y z : A} → x ≡ z → y ≡ z → x ≡ y

@@ -5,3 +5,4 @@ pub mod MarkLaws
 pub mod RunLaws
 pub mod EndLaws
 pub mod Answers
+pub mod OneAnswer

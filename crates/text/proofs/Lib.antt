@@ -3,3 +3,4 @@ pub mod Classes
 pub mod Scans
 pub mod Names
 pub mod Strings
+pub mod OneAnswer

@@ -10,3 +10,4 @@ pub mod HeaderLaws
 pub mod NextLaws
 pub mod LookupLaws
 pub mod Answers
+pub mod OneAnswer

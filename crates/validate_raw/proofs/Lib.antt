@@ -10,3 +10,4 @@ pub mod NestLaws
 pub mod CycleLaws
 pub mod EntryLaws
 pub mod Demands
+pub mod OneAnswer

@@ -1,0 +1,10 @@
+-- No second answer meets a contract of this crate's entry points: each is an equation with a definition of what was passed.
+use Rattle.meaning.proofs.OneAnswer.{OneAnswer, both}
+use Rattle.types.proofs.align.Reads as align
+use Rattle.types.proofs.size.Reads as size
+
+pub one-align : OneAnswer align.Learnt
+one-align κs a x y s t h k = both h k
+
+pub one-size : OneAnswer size.Learnt
+one-size κs a x y s t h k = both h k
