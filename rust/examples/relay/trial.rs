@@ -91,7 +91,7 @@ fn with(message: &[u8], at: usize, byte: u8) -> Vec<u8> {
 }
 
 pub fn run() {
-    let long = "glyph ".repeat(1500);
+    let long = "glyph ".repeat(700);
     let texts = [
         (LittleEndian, "regular"),
         (BigEndian, "fett, kursiv, größer"),
