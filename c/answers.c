@@ -194,7 +194,9 @@ static bool header(struct question *q) {
 }
 
 static bool field(struct question *q) {
-    uint8_t code = (uint8_t)number(q, UINT8_MAX);
+    uint64_t n = number(q, UINT64_MAX);
+    /* a code above 255 is no field's, as 0 is none */
+    uint8_t code = n <= UINT8_MAX ? (uint8_t)n : 0;
     struct bytes m = bytes(q), fallback = bytes(q);
     if (!asked(q)) {
         return false;

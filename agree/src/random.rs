@@ -46,7 +46,7 @@ impl Random {
 
     /// A number of 64 bits, often one at an edge.
     pub fn edge(&mut self) -> u64 {
-        let edge = *self.pick(&[
+        let edge: u64 = *self.pick(&[
             0,
             1 << 7,
             1 << 8,
@@ -58,7 +58,7 @@ impl Random {
         ]);
         match self.below(4) {
             0 => edge,
-            1 => (edge as u64).wrapping_sub(1),
+            1 => edge.wrapping_sub(1),
             2 => self.word(),
             _ => self.word() % 300,
         }

@@ -20,15 +20,18 @@ fn digit(c: u8) -> Option<u8> {
 }
 
 fn bytes(word: &[u8]) -> Option<Vec<u8>> {
-    if word == b"-" {
-        return Some(Vec::new());
+    match word {
+        b"-" => Some(Vec::new()),
+        b"" => None,
+        _ => word.chunks(2).map(byte).collect(),
     }
-    if word.is_empty() || word.len() % 2 != 0 {
-        return None;
+}
+
+fn byte(pair: &[u8]) -> Option<u8> {
+    match pair {
+        [high, low] => Some(digit(*high)? * 16 + digit(*low)?),
+        _ => None,
     }
-    word.chunks(2)
-        .map(|pair| Some(digit(pair[0])? * 16 + digit(pair[1])?))
-        .collect()
 }
 
 /// A decimal number of 64 bits.
@@ -183,7 +186,8 @@ fn answer(line: &[u8]) -> Option<String> {
         [b"message", b] => counted(check_message(&bytes(b)?)),
         [b"header", b] => header(unmarshal_header(&bytes(b)?)),
         [b"field", c, m, f] => {
-            let code = u8::try_from(number(c)?).ok()?;
+            // a code above 255 is no field's, as 0 is none
+            let code = u8::try_from(number(c)?).unwrap_or(0);
             format!("text {}", hex(lookup(&bytes(m)?, code, &bytes(f)?)))
         }
         _ => return write(&words),

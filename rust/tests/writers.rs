@@ -43,14 +43,14 @@ fn other_orders_and_empty_texts() {
 
 #[test]
 fn padding_reaches_the_next_multiple() {
-    for place in 0..9 {
+    for place in 0..9usize {
         for align in [1, 2, 4, 8] {
             let mut buf = [0xaa; 16];
-            let next = (place + align - 1) / align * align;
+            let next = place.next_multiple_of(align);
             assert_eq!(pad_to_align(align, &mut buf, place), Ok(next));
-            let zeros = |i| (place..next).contains(&i);
+            let padded = |i| (place..next).contains(&i);
             assert!(
-                (0..16).all(|i| buf[i] == if zeros(i) { 0 } else { 0xaa }),
+                (0..16).all(|i| buf[i] == if padded(i) { 0 } else { 0xaa }),
                 "{} {}",
                 place,
                 align

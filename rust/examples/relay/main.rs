@@ -56,7 +56,7 @@ fn wanted(held: &[u8]) -> usize {
         _ => None,
     };
     match (length_at(4), length_at(12)) {
-        (Some(body), Some(fields)) => (16 + fields + 7) / 8 * 8 + body,
+        (Some(body), Some(fields)) => (16 + fields).next_multiple_of(8) + body,
         _ => 16,
     }
 }

@@ -1,9 +1,14 @@
-# Sourced at the root of the repository by rust/test and agree/run: how programs that link libmillettie.a, which is x86-64 code, are built and run
-# here. Sets what cargo reads, CC (the C compiler with its options for the machine) and RUN (what a program is run by; empty on x86-64).
+# Sourced at the root of the repository by rust/test and agree/run. Proves and builds libmillettie.a, which is x86-64 code, and says how
+# programs that link it are built and run here: sets what cargo reads, CC (the C compiler and its options for the machine) and RUN (what
+# runs a program; nothing on x86-64).
 #
 # On Arm, an x86-64 Rust and C library come out of Debian's packages, unpacked in target/cross; nothing is installed. What is built with them
-# is linked statically and run by the toolchain's emulator. That part was tried on x86-64 only, with Debian's emulator in place of the
-# toolchain's: see docs/DECISIONS.md.
+# is linked statically and run by the toolchain's emulator. That part never ran on an Arm machine. It was tried on x86-64 with the
+# toolchain's emulator for Arm, itself run by Debian's emulator of Arm.
+echo "proving and building the static library where needed, which takes some minutes the first time" >&2
+mkdir -p target
+rt staticlib millettie >target/staticlib.log 2>&1 || { tail -20 target/staticlib.log >&2; exit 1; }
+
 triple=x86_64-unknown-linux-gnu
 export CARGO_BUILD_TARGET=$triple CARGO_TARGET_DIR="$PWD/target/cargo" CARGO_NET_OFFLINE=true
 RUN='' CC=${CC:-cc}
