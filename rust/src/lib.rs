@@ -13,6 +13,9 @@
 //! let refusal = validate_marshalled(ByteOrder::LittleEndian, 0, &bad, b"s").unwrap_err();
 //! assert_eq!(refusal.to_string(), "the byte behind a text is not zero (refusal 8, MissingTerminator) at byte 0");
 //! ```
+#![deny(unsafe_code)]
+
+#[allow(unsafe_code)]
 mod ffi;
 mod fixed;
 mod header;

@@ -72,7 +72,7 @@ fn whole_streams(messages: &[Vec<u8>]) {
     );
 }
 
-/// The stream that stops: the relay hands on what is good, says why it stops, and does so wherever the stream is cut.
+/// A stream with a fault: the relay hands on what is good and says why it stops, wherever the stream is cut.
 fn faulty_streams(what: &str, good: &[Vec<u8>], faulty: &[u8], expected: &str) {
     let stream = [&good.concat(), faulty].concat();
     for cut in 0..=stream.len() {
@@ -90,7 +90,7 @@ fn with(message: &[u8], at: usize, byte: u8) -> Vec<u8> {
     copy
 }
 
-pub fn run() {
+fn stream_of_five() -> Vec<Vec<u8>> {
     let long = "glyph ".repeat(700);
     let texts = [
         (LittleEndian, "regular"),
@@ -99,48 +99,41 @@ pub fn run() {
         (BigEndian, &long),
         (LittleEndian, "light"),
     ];
-    let messages: Vec<Vec<u8>> = (1..)
-        .zip(texts)
-        .map(|(serial, (order, text))| signal(order, serial, text).unwrap())
-        .collect();
-    whole_streams(&messages);
+    let message = |(serial, (order, text))| signal(order, serial, text).unwrap();
+    (1..).zip(texts).map(message).collect()
+}
 
-    let good = &messages[..3];
-    let passed = good.concat().len();
-    let next = &messages[4];
-    let body = next.len() - "light".len() - 5;
-    let stops = |why: &str| format!("after {} good bytes: {}", passed, why);
+pub fn run() {
+    let messages = stream_of_five();
+    whole_streams(&messages);
+    let (good, next) = (&messages[..3], &messages[4]);
     let last = next.len() - 1;
-    let terminator = format!("the byte behind a text is not zero (refusal 8, MissingTerminator) at byte {} of the message", body);
-    faulty_streams(
-        "no zero behind a text",
-        good,
-        &with(next, last, 1),
-        &stops(&terminator),
-    );
-    let inside = format!("the bytes end too early, or an array's length is not a whole number of elements (refusal 2, NotEnoughBytes) at byte {} of the message", body);
-    faulty_streams(
-        "a text longer than its message",
-        good,
-        &with(next, body, 6),
-        &stops(&inside),
-    );
-    let order = "the first byte of a message is neither l nor B (refusal 17, InvalidByteOrder) at byte 0 of the message";
-    faulty_streams("no message", good, &with(next, 0, b'?'), &stops(order));
+    let text = next.len() - "light".len() - 5;
+    let refused = |number, position| format!("{} of the message", Refusal::new(number, position));
     let cut = format!(
         "the stream ends inside a message, of which it has {} bytes",
         last
     );
-    faulty_streams("a message cut off", good, &next[..last], &stops(&cut));
-    let huge = with(next, 7, 0x7f);
-    let stated = next.len() + (0x7f << 24);
-    faulty_streams(
-        "a message of 2 GiB",
-        good,
-        &huge,
-        &stops(&format!(
-            "a message states {} bytes, more than are allowed",
-            stated
-        )),
+    let long = format!(
+        "a message states {} bytes, more than are allowed",
+        next.len() + (0x7f << 24)
     );
+    for (what, faulty, why) in [
+        (
+            "no zero behind a text",
+            with(next, last, 1),
+            refused(8, text),
+        ),
+        (
+            "a text longer than its message",
+            with(next, text, 6),
+            refused(2, text),
+        ),
+        ("no message", with(next, 0, b'?'), refused(17, 0)),
+        ("a message cut off", next[..last].to_vec(), cut),
+        ("a message of 2 GiB", with(next, 7, 0x7f), long),
+    ] {
+        let expected = format!("after {} good bytes: {}", good.concat().len(), why);
+        faulty_streams(what, good, &faulty, &expected);
+    }
 }
