@@ -3,7 +3,7 @@ use crate::random::Random;
 use crate::types::{several, spell, wild_signature, Type};
 
 pub fn text(random: &mut Random) -> Vec<u8> {
-    let longest = if random.once_in(300) { 20_000 } else { 12 };
+    let longest = if random.once_in(300) { 6_000 } else { 12 };
     let letters = [
         "a", "k", "Z", "0", "_", ".", "/", " ", "ä", "→", "😀", "\u{7f}", "\u{7ff}", "\u{ffff}",
     ];
