@@ -68,33 +68,32 @@ fn about(e: &mut Encoder, n: usize) -> usize {
     }
 }
 
+// The first 16 bytes, with both lengths still 0.
+fn start(e: &mut Encoder, kind: usize) {
+    let mark = if e.big { b'B' } else { b'l' };
+    for byte in [mark, kind as u8] {
+        let wrong = e.fault();
+        e.out.push(if wrong { e.random.byte() } else { byte });
+    }
+    let (flags, version, serial) = (e.random.byte(), e.random.byte(), e.random.edge());
+    e.out.extend([flags, version]);
+    e.integer(0, 4);
+    e.integer(serial, 4);
+    e.integer(0, 4);
+}
+
 pub fn message(random: &mut Random, fault_in: usize) -> Vec<u8> {
+    let kind = random.within(1, 4);
+    let body = several(random, 0, 3, 2);
     let big = random.once_in(2);
+    let out = Vec::new();
     let mut e = Encoder {
         random,
-        out: Vec::new(),
+        out,
         big,
         fault_in,
     };
-    let kind = e.random.within(1, 4);
-    let mark = if e.fault() {
-        e.random.byte()
-    } else if big {
-        b'B'
-    } else {
-        b'l'
-    };
-    let stated = if e.fault() {
-        e.random.byte()
-    } else {
-        kind as u8
-    };
-    let flags = e.random.byte();
-    e.out.extend([mark, stated, flags, 1, 0, 0, 0, 0]);
-    let serial = e.random.edge();
-    e.integer(serial, 4);
-    e.integer(0, 4);
-    let body = several(e.random, 0, 3, 2);
+    start(&mut e, kind);
     for code in codes(&mut e, kind, !body.is_empty()) {
         field(&mut e, code, &body);
     }

@@ -2,6 +2,7 @@
 //! `agree/run` holds the two, and the same program in C, to the same answers.
 use millettie::*;
 use std::io::{self, Read, Write};
+use std::ops::Range;
 
 /// Bytes in hexadecimal; `-` for none.
 fn hex(bytes: &[u8]) -> String {
@@ -81,23 +82,38 @@ fn fixed(answer: Result<(FixedValue, usize), Refusal>) -> String {
     }
 }
 
-fn header(answer: Result<Header, Refusal>) -> String {
-    let header = match answer {
-        Ok(header) => header,
-        Err(refusal) => return no(refusal),
+fn text_field(field: &Option<Range<usize>>) -> String {
+    match field {
+        Some(at) => format!("t:{}:{}", at.start, at.len()),
+        None => "-".to_string(),
+    }
+}
+
+fn number_field(field: Option<u32>) -> String {
+    field.map_or("-".to_string(), |n| format!("n:{}", n))
+}
+
+fn fields(f: &Fields) -> String {
+    let all = [
+        text_field(&f.object),
+        text_field(&f.interface),
+        text_field(&f.member),
+        text_field(&f.error_name),
+        number_field(f.response_serial),
+        text_field(&f.destination),
+        text_field(&f.sender),
+        text_field(&f.signature),
+        number_field(f.num_fds),
+    ];
+    all.join(" ")
+}
+
+fn header(h: Header) -> String {
+    let mark = match h.byteorder {
+        ByteOrder::LittleEndian => "l",
+        ByteOrder::BigEndian => "B",
     };
-    let text = |field: &Option<std::ops::Range<usize>>| {
-        field
-            .as_ref()
-            .map_or("-".to_string(), |at| format!("t:{}:{}", at.start, at.len()))
-    };
-    let number = |field: Option<u32>| field.map_or("-".to_string(), |n| format!("n:{}", n));
-    let mark = if header.byteorder == ByteOrder::BigEndian {
-        "B"
-    } else {
-        "l"
-    };
-    let kind = match header.typ {
+    let kind = match h.typ {
         MessageType::Call => 1,
         MessageType::Reply => 2,
         MessageType::Error => 3,
@@ -105,27 +121,10 @@ fn header(answer: Result<Header, Refusal>) -> String {
     };
     let start = format!(
         "ok {} {} {} {} {} {}",
-        header.length, mark, kind, header.flags, header.version, header.serial
+        h.length, mark, kind, h.flags, h.version, h.serial
     );
-    let f = &header.fields;
-    let fields = [
-        text(&f.object),
-        text(&f.interface),
-        text(&f.member),
-        text(&f.error_name),
-        number(f.response_serial),
-        text(&f.destination),
-        text(&f.sender),
-        text(&f.signature),
-        number(f.num_fds),
-    ];
-    format!(
-        "{} {} {} {}",
-        start,
-        header.body.start,
-        header.body.len(),
-        fields.join(" ")
-    )
+    let body = format!("{} {}", h.body.start, h.body.len());
+    format!("{} {} {}", start, body, fields(&h.fields))
 }
 
 /// A write into the buffer, and the buffer as it is afterwards.
@@ -184,7 +183,7 @@ fn answer(line: &[u8]) -> Option<String> {
             &bytes(s)?,
         )),
         [b"message", b] => counted(check_message(&bytes(b)?)),
-        [b"header", b] => header(unmarshal_header(&bytes(b)?)),
+        [b"header", b] => unmarshal_header(&bytes(b)?).map_or_else(no, header),
         [b"field", c, m, f] => {
             // a code above 255 is no field's, as 0 is none
             let code = u8::try_from(number(c)?).unwrap_or(0);
