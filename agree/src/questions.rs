@@ -88,8 +88,8 @@ fn fixed(random: &mut Random) -> String {
     value(random, "fixed", of)
 }
 
-fn any_message(random: &mut Random) -> Vec<u8> {
-    let fault_in = *random.pick(&[0, 100, 30]);
+fn any_message(random: &mut Random, faults: &[usize]) -> Vec<u8> {
+    let fault_in = *random.pick(faults);
     let mut bytes = message(random, fault_in);
     if random.once_in(4) {
         bytes.extend(message(random, fault_in));
@@ -98,12 +98,12 @@ fn any_message(random: &mut Random) -> Vec<u8> {
 }
 
 fn field(random: &mut Random) -> String {
-    let code = if random.once_in(8) {
+    let code = if random.once_in(4) {
         random.below(300)
     } else {
-        random.below(12)
+        *random.pick(&[1, 2, 3, 4, 6, 7, 8])
     };
-    let message = any_message(random);
+    let message = any_message(random, &[0, 0, 100]);
     format!("field {} {} {}", code, hex(&message), hex(&random.bytes(6)))
 }
 
@@ -145,8 +145,8 @@ fn good(random: &mut Random) -> String {
         0..=3 => any_value(random),
         4 => format!("sig {}", hex(&signature(random))),
         5 => fixed(random),
-        6 | 7 => format!("message {}", hex(&any_message(random))),
-        8 => format!("header {}", hex(&any_message(random))),
+        6 | 7 => format!("message {}", hex(&any_message(random, &[0, 100, 30]))),
+        8 => format!("header {}", hex(&any_message(random, &[0, 0, 100, 30]))),
         9 => field(random),
         _ => write(random),
     }
