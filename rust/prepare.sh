@@ -49,8 +49,9 @@ END
 compilers() {
     libraries=$(echo "$cross"/host/usr/lib/*-linux-gnu)
     printf '#!/bin/sh\nLD_LIBRARY_PATH=%s exec %s "$@"\n' "$libraries" "$cross/host/usr/bin/rustc" >"$cross/rustc"
-    printf '#!/bin/sh\nexec %s --target=x86_64-linux-gnu --sysroot=%s -fuse-ld=lld -Wno-unused-command-line-argument "$@"\n' \
-        "$tools/bin/clang" "$cross/x86" >"$cross/cc"
+    # the toolchain's clang has no headers of its own, such as stdbool.h
+    printf '#!/bin/sh\nexec %s --target=x86_64-linux-gnu --sysroot=%s -isystem %s -fuse-ld=lld -Wno-unused-command-line-argument "$@"\n' \
+        "$tools/bin/clang" "$cross/x86" "$(echo "$cross"/x86/usr/lib/gcc/x86_64-linux-gnu/*/include)" >"$cross/cc"
     chmod +x "$cross/rustc" "$cross/cc"
     echo 'int pthread_getattr_np(void *thread, void *attributes) { (void)thread; (void)attributes; return 38; }' >"$cross/no_maps.c"
     "$cross/cc" -c -o "$cross/no_maps.o" "$cross/no_maps.c"
