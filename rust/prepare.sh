@@ -5,9 +5,12 @@
 # On Arm, an x86-64 Rust and C library come out of Debian's packages, unpacked in target/cross; nothing is installed. What is built with them
 # is linked statically and run by the toolchain's emulator. That part never ran on an Arm machine. It was tried on x86-64 with the
 # toolchain's emulator for Arm, itself run by Debian's emulator of Arm.
-echo "proving and building the static library where needed, which takes some minutes the first time" >&2
 mkdir -p target
-rt staticlib millettie >target/staticlib.log 2>&1 || { tail -20 target/staticlib.log >&2; exit 1; }
+built() { # a command of rt that proves and builds
+    echo "rt $*: takes some minutes the first time" >&2
+    rt "$@" >target/built.log 2>&1 || { tail -20 target/built.log >&2; exit 1; }
+}
+built staticlib millettie
 
 triple=x86_64-unknown-linux-gnu
 export CARGO_BUILD_TARGET=$triple CARGO_TARGET_DIR="$PWD/target/cargo" CARGO_NET_OFFLINE=true
