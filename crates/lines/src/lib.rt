@@ -1,12 +1,12 @@
 // A line of text taken apart into words, numbers and bytes in hexadecimal, and answers put into a buffer that the caller lends.
 ghost use mathlib.Core.Path.{_≡_};
 ghost use mathlib.Core.Bool.{true, cond};
-ghost use Prim.Native.Nat.{ℕ, _+_, _*_, _^_, _≤_, _<_};
+ghost use Prim.Native.Nat.{_+_, _*_, _^_, _≤_, _<_};
 ghost use lib.Dec.{ltb};
 ghost use lib.ListN.{length, drop, take};
 ghost use lib.Seq.{sets};
-ghost use Rattle.io.specs.Digits.{glyph as glyphOf, digits, Fewest};
-ghost use Rattle.lines.specs.Digits.{digitOf, allDigits, valueFrom, pairs, hexText, bytesText};
+ghost use Rattle.io.specs.Digits.{glyph as glyphOf};
+ghost use Rattle.lines.specs.Digits.{digitOf, allDigits, valueFrom, pairs, hexText, bytesText, decimal};
 ghost use Rattle.lines.specs.Words.{wordEnd, occurrences, numberOf, takenOf};
 ghost use Rattle.lines.specs.Puts.{putText};
 
@@ -190,7 +190,8 @@ pub fn put(out: &mut [u8], at: usize, s: &[u8]) -> usize
 
 // A number's decimal digits, the fewest that hold it.
 pub fn put_number(out: &mut [u8], at: usize, n: u64) -> usize
-    ensures { λ r. ⌜ ((k : ℕ) × Fewest 10 1 n k × (r ≡ putText (now (out .entry)) at (digits 10 k n) .place) × (now (out .exit) ≡ putText (now (out .entry)) at (digits 10 k n) .after)) ⌝ }
+    ensures { λ r. ⌜ r ≡ putText (now (out .entry)) at (decimal n) .place ⌝ }
+    ensures { λ r. ⌜ now (out .exit) ≡ putText (now (out .entry)) at (decimal n) .after ⌝ }
 {
     let mut text = [0u8; 20];
     let k = io::decimal(n, &mut text);
