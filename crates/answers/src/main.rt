@@ -2,197 +2,282 @@
 //   value l|B OFFSET SIG BYTES     ok LENGTH, or no POSITION NUMBER
 //   fixed l|B OFFSET SIG BYTES     ok KIND VALUE, or no POSITION NUMBER
 //   sig BYTES                      ok COUNT, or no 0 NUMBER
+//   message BYTES                  ok LENGTH, or no POSITION NUMBER
+//   header BYTES                   ok LENGTH l|B TYPE FLAGS VERSION SERIAL BODY_PLACE BODY_LENGTH and nine fields, each -, n:NUMBER or
+//                                  t:PLACE:LENGTH; or no POSITION NUMBER
+//   field CODE MESSAGE FALLBACK    text BYTES
 //   pad PLACE ALIGN BUF; w16|w32|w64 l|B PLACE NUMBER BUF; wstr l|B PLACE TEXT BUF; wsig PLACE SIG BUF
 //                                  ok NEWPLACE BUF, or no POSITION NUMBER BUF, with the buffer as it is afterwards
-// Any other line is answered by bad. The file stdout was made by a model of document 01 in another language, which walks values by
+// Any other line is answered by bad. The file stdout was made by models of document 01 in another language, which walk values and messages by
 // recursion over parsed types; where document 01 lists no difference, it was held to the original crate's answers too.
-mod questions;
-mod says;
+mod stream;
 
-ghost use Prim.Native.Nat.{_+_, _≤_};
-ghost use lib.ListN.{length};
-use libc::STDIN_FILENO;
-use libc::STDOUT_FILENO;
+use lines::Number;
+use lines::Taken;
+use meaning::Length;
+use meaning::Order;
+use meaning::Place;
+use meaning::Written;
 
-// Lines of up to 393,215 bytes are held. A word of one spells at most half as many bytes, and its answer is at most a few bytes longer
-// than itself, so it fits in half the output.
-const INPUT: usize = 393216;
+// A padding or a number to write, with the place.
+enum Put {
+    Pad(usize, usize),
+    Word16(Order, usize, u16),
+    Word32(Order, usize, u32),
+    Word64(Order, usize, u64),
+}
 
-const BYTES: usize = 196608;
+// Questions whose last word is their only bytes.
+enum Single {
+    Signature,
+    Message,
+    Header,
+    Write(Put),
+}
 
-const OUTPUT: usize = 1048576;
+// Questions whose last two words are bytes: a signature or a text, and a buffer.
+enum Double {
+    Value(Order, usize),
+    Fixed(Order, usize),
+    WriteString(Order, usize),
+    WriteSignature(usize),
+}
 
-fn flush(out: &[u8], at: usize) {
-    if at <= out.len() {
-        io::write_all(STDOUT_FILENO, &out[..at]);
+enum Question {
+    Single(Single),
+    Double(Double),
+    Field(u8),
+    Bad,
+}
+
+enum Given {
+    Is(Order),
+    Bad,
+}
+
+fn order_of(word: &[u8]) -> Given {
+    if check::same(word, b"l") {
+        Given::Is(Order::Little)
+    } else if check::same(word, b"B") {
+        Given::Is(Order::Big)
+    } else {
+        Given::Bad
     }
 }
 
-fn answer_line(
-    line: &[u8],
-    first: &mut [u8],
-    second: &mut [u8],
+// A code above 255 is no field's, as 0 is none.
+fn code_of(n: u64) -> u8 {
+    if n < 256 { n as u8 } else { 0 }
+}
+
+fn bare(word: &[u8]) -> Question {
+    if check::same(word, b"sig") {
+        Question::Single(Single::Signature)
+    } else if check::same(word, b"message") {
+        Question::Single(Single::Message)
+    } else if check::same(word, b"header") {
+        Question::Single(Single::Header)
+    } else {
+        Question::Bad
+    }
+}
+
+// A number comes before the bytes: a place, or a field's code.
+fn placed(word: &[u8], words: &[u8]) -> Question {
+    let Number::Is(n) = lines::number_of(lines::head(words)) else {
+        return Question::Bad;
+    };
+    if check::same(word, b"field") {
+        return Question::Field(code_of(n));
+    }
+    if check::same(word, b"wsig") {
+        return Question::Double(Double::WriteSignature(n as usize));
+    }
+    if check::same(word, b"pad") {
+        padding(n as usize, lines::tail(words))
+    } else {
+        Question::Bad
+    }
+}
+
+fn padding(place: usize, words: &[u8]) -> Question {
+    match lines::number_of(lines::head(words)) {
+        Number::Is(n) => Question::Single(Single::Write(Put::Pad(place, n as usize))),
+        Number::Bad => Question::Bad,
+    }
+}
+
+// A byte order and a place come before the rest.
+fn ordered(word: &[u8], words: &[u8]) -> Question {
+    let Given::Is(order) = order_of(lines::head(words)) else {
+        return Question::Bad;
+    };
+    let rest = lines::tail(words);
+    let Number::Is(n) = lines::number_of(lines::head(rest)) else {
+        return Question::Bad;
+    };
+    let place = n as usize;
+    if check::same(word, b"value") {
+        return Question::Double(Double::Value(order, place));
+    }
+    if check::same(word, b"fixed") {
+        return Question::Double(Double::Fixed(order, place));
+    }
+    if check::same(word, b"wstr") {
+        return Question::Double(Double::WriteString(order, place));
+    }
+    numbered(word, order, place, lines::tail(rest))
+}
+
+fn numbered(word: &[u8], order: Order, place: usize, words: &[u8]) -> Question {
+    match lines::number_of(lines::head(words)) {
+        Number::Is(n) => of_width(word, order, place, n),
+        Number::Bad => Question::Bad,
+    }
+}
+
+// A number that the width does not hold is no question.
+fn of_width(word: &[u8], order: Order, place: usize, n: u64) -> Question {
+    if check::same(word, b"w64") {
+        return Question::Single(Single::Write(Put::Word64(order, place, n)));
+    }
+    if n < 0x1_0000_0000 {
+        if check::same(word, b"w32") {
+            return Question::Single(Single::Write(Put::Word32(order, place, n as u32)));
+        }
+    }
+    if n < 0x1_0000 {
+        if check::same(word, b"w16") {
+            return Question::Single(Single::Write(Put::Word16(order, place, n as u16)));
+        }
+    }
+    Question::Bad
+}
+
+// By the number of gaps between the words after the first.
+fn question_of(word: &[u8], words: &[u8], gaps: usize) -> Question {
+    if gaps == 0 {
+        bare(word)
+    } else if gaps == 2 {
+        placed(word, words)
+    } else if gaps == 3 {
+        ordered(word, words)
+    } else {
+        Question::Bad
+    }
+}
+
+// What follows the first words, up to three.
+fn behind(line: &[u8], words: usize) -> &[u8] {
+    if words == 0 {
+        return line;
+    }
+    let first = lines::tail(line);
+    if words == 1 {
+        return first;
+    }
+    let second = lines::tail(first);
+    if words == 2 {
+        return second;
+    }
+    lines::tail(second)
+}
+
+fn write_number(put: Put, buf: &mut [u8]) -> Written {
+    match put {
+        Put::Pad(place, n) => write::pad_to_align(Length(n), buf, Place(place)),
+        Put::Word16(order, place, n) => write::write_u16(n, order, buf, Place(place)),
+        Put::Word32(order, place, n) => write::write_u32(n, order, buf, Place(place)),
+        Put::Word64(order, place, n) => write::write_u64(n, order, buf, Place(place)),
+    }
+}
+
+fn of_one(q: Single, buf: &mut [u8], out: &mut [u8], at: usize) -> usize {
+    match q {
+        Single::Signature => says::counted(out, at, signature::validate_signature(buf)),
+        Single::Message => says::checked(out, at, unmarshal::check_message(buf)),
+        Single::Header => says::header(out, at, unmarshal::unmarshal_header(buf)),
+        Single::Write(put) => {
+            let w = write_number(put, buf);
+            says::written(out, at, w, buf)
+        }
+    }
+}
+
+fn one(q: Single, word: &[u8], buf: &mut [u8], out: &mut [u8], at: usize) -> usize {
+    let Taken::Bytes(k) = lines::bytes_of(word, buf) else {
+        return says::bad(out, at);
+    };
+    of_one(q, &mut buf[..k], out, at)
+}
+
+fn of_two(q: Double, s: &[u8], buf: &mut [u8], out: &mut [u8], at: usize) -> usize {
+    match q {
+        Double::Value(order, n) => {
+            let c = validate_raw::validate_marshalled(order, Place(n), buf, s);
+            says::checked(out, at, c)
+        }
+        Double::Fixed(order, n) => {
+            let r = read::unmarshal_fixed(order, Place(n), buf, s);
+            says::fixed(out, at, r)
+        }
+        Double::WriteString(order, n) => {
+            let w = write::write_string(s, order, buf, Place(n));
+            says::written(out, at, w, buf)
+        }
+        Double::WriteSignature(n) => {
+            let w = write::write_signature(s, buf, Place(n));
+            says::written(out, at, w, buf)
+        }
+    }
+}
+
+fn two(
+    q: Double,
+    words: &[u8],
+    text: &mut [u8],
+    buf: &mut [u8],
     out: &mut [u8],
     at: usize,
 ) -> usize {
-    let mut from = at;
-    if out.len() / 2 < at {
-        flush(out, at);
-        from = 0;
-    }
-    let behind = questions::answer(line, first, second, out, from);
-    lines::put(out, behind, b"\n")
-}
-
-// Answers each line that ends among the first `n` bytes, and says where what is left of them begins.
-fn answer_lines(
-    n: usize,
-    input: &[u8],
-    first: &mut [u8],
-    second: &mut [u8],
-    out: &mut [u8],
-) -> usize
-    requires { ⌜ n ≤ length (now input) ⌝ }
-    ensures { λ r. ⌜ r ≤ n ⌝ }
-{
-    let mut start = 0;
-    let mut at = 0;
-    let mut end = bytes::scan::find(input, 0, n, b'\n');
-    while end < n {
-        at = answer_line(&input[start..end], first, second, out, at);
-        start = end + 1;
-        end = bytes::scan::find(input, start, n, b'\n');
-    }
-    flush(out, at);
-    start
-}
-
-// What a block leaves: bytes of a line that goes on, at the front of the buffer; or a line that is too long, to be skipped to its end.
-struct Rest {
-    held: usize,
-    skipping: bool,
-    more: bool,
-}
-
-fn move_down(s: &mut [u8], from: usize, to: usize)
-    requires { ⌜ (from ≤ to) × (to ≤ length (now s)) ⌝ }
-{
-    let count = to - from;
-    let mut i = 0;
-    while i < count {
-        s[i] = s[from + i];
-        i += 1;
-    }
-}
-
-// The input may end in a line without a line end.
-fn last_line(s: &[u8], first: &mut [u8], second: &mut [u8], out: &mut [u8]) {
-    if s.len() != 0 {
-        let at = answer_line(s, first, second, out, 0);
-        flush(out, at);
-    }
-}
-
-// Goes on after the line that is skipped, if it ends in this block.
-fn skip(n: usize, input: &mut [u8]) -> Rest
-    requires { ⌜ n ≤ length (now input) ⌝ }
-    ensures { λ r. ⌜ r .held ≤ n ⌝ }
-{
-    let end = bytes::scan::find(input, 0, n, b'\n');
-    if end < n {
-        let start = end + 1;
-        move_down(input, start, n);
-        Rest {
-            held: n - start,
-            skipping: false,
-            more: true,
-        }
-    } else {
-        Rest {
-            held: 0,
-            skipping: true,
-            more: n == input.len(),
-        }
-    }
-}
-
-// A block that does not fill the buffer is the last.
-fn block(n: usize, input: &mut [u8], first: &mut [u8], second: &mut [u8], out: &mut [u8]) -> Rest
-    requires { ⌜ n ≤ length (now input) ⌝ }
-    ensures { λ r. ⌜ r .held ≤ n ⌝ }
-{
-    let start = answer_lines(n, input, first, second, out);
-    if n < input.len() {
-        last_line(&input[start..n], first, second, out);
-        return Rest {
-            held: 0,
-            skipping: false,
-            more: false,
-        };
-    }
-    if start == 0 {
-        let at = questions::bad(out, 0);
-        let end = lines::put(out, at, b"\n");
-        flush(out, end);
-        return Rest {
-            held: 0,
-            skipping: true,
-            more: true,
-        };
-    }
-    move_down(input, start, n);
-    Rest {
-        held: n - start,
-        skipping: false,
-        more: true,
-    }
-}
-
-fn turn(last: Rest, input: &mut [u8], first: &mut [u8], second: &mut [u8], out: &mut [u8]) -> Rest
-    requires { ⌜ last .held ≤ length (now input) ⌝ }
-    ensures { λ r. ⌜ r .held ≤ length (now (input .exit)) ⌝ }
-{
-    let held = last.held;
-    let n = held + io::read_full(STDIN_FILENO, &mut input[held..]);
-    if last.skipping {
-        skip(n, input)
-    } else {
-        block(n, input, first, second, out)
-    }
-}
-
-// Nothing says that the input ends, so the turns are counted.
-fn run(input: &mut [u8], first: &mut [u8], second: &mut [u8], out: &mut [u8]) {
-    let mut left = Rest {
-        held: 0,
-        skipping: false,
-        more: true,
+    let Taken::Bytes(n) = lines::bytes_of(lines::head(words), text) else {
+        return says::bad(out, at);
     };
-    let mut turns: u64 = 0xffff_ffff_ffff_ffff;
-    while turns > 0 {
-        left = turn(left, input, first, second, out);
-        if left.more {
-            turns -= 1;
-        } else {
-            return;
-        }
-    }
+    let Taken::Bytes(k) = lines::bytes_of(lines::tail(words), buf) else {
+        return says::bad(out, at);
+    };
+    of_two(q, &text[..n], &mut buf[..k], out, at)
 }
 
-// Arrays whose lengths are in their types, so that nothing has to count their elements.
-fn with_buffers(
-    input: &mut [u8; INPUT],
-    first: &mut [u8; BYTES],
-    second: &mut [u8; BYTES],
-    out: &mut [u8; OUTPUT],
-) {
-    run(input, first, second, out);
+// The text of a message's field, or the fallback.
+fn field(
+    code: u8,
+    words: &[u8],
+    text: &mut [u8],
+    buf: &mut [u8],
+    out: &mut [u8],
+    at: usize,
+) -> usize {
+    let Taken::Bytes(n) = lines::bytes_of(lines::head(words), text) else {
+        return says::bad(out, at);
+    };
+    let Taken::Bytes(k) = lines::bytes_of(lines::tail(words), buf) else {
+        return says::bad(out, at);
+    };
+    says::text(out, at, unmarshal::lookup(&text[..n], code, &buf[..k]))
+}
+
+fn answer(line: &[u8], text: &mut [u8], buf: &mut [u8], out: &mut [u8], at: usize) -> usize {
+    let words = lines::tail(line);
+    let gaps = lines::count(words, b' ');
+    match question_of(lines::head(line), words, gaps) {
+        Question::Single(q) => one(q, behind(words, gaps), buf, out, at),
+        Question::Double(q) => two(q, behind(line, gaps), text, buf, out, at),
+        Question::Field(code) => field(code, behind(line, gaps), text, buf, out, at),
+        Question::Bad => says::bad(out, at),
+    }
 }
 
 fn main() {
-    let mut input = [0u8; INPUT];
-    let mut first = [0u8; BYTES];
-    let mut second = [0u8; BYTES];
-    let mut out = [0u8; OUTPUT];
-    with_buffers(&mut input, &mut first, &mut second, &mut out);
+    stream::answer_input();
 }

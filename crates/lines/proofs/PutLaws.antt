@@ -1,6 +1,6 @@
 -- Texts that are put one behind the other.
 use Prim.Native.Nat.{ℕ}
-use mathlib.Core.Path.{_≡_, refl}
+use mathlib.Core.Path.{_≡_, refl, _∙_}
 use mathlib.Core.List.{List, [], _∷_, _++_}
 use Rattle.lines.specs.Puts.{putText, putAll, Puts}
 
@@ -14,7 +14,11 @@ pub alone : {out b x : List ℕ} {at p : ℕ} → (p ≡ putText out at x .place
 unfolding putAll
 alone h = record { place = h .0; after = h .1 }
 
+-- what is left to put once some texts are there
+pub rest : {out b : List ℕ} {at p : ℕ} {xs : List (List ℕ)} (ys : List (List ℕ)) → Puts out at xs p b → putAll out at (xs ++ ys) ≡ putAll b p ys
+rest {out} {b} {at} {p} {xs} ys g = append out at xs ys ∙ rw (← g .place, ← g .after)
+
 -- some texts, and behind them others
 pub then : {out b e : List ℕ} {at p q : ℕ} {xs ys : List (List ℕ)} → Puts out at xs p b → Puts b p ys q e → Puts out at (xs ++ ys) q e
 then {out} {b} {e} {at} {p} {q} {xs} {ys} g h =
-    let l = append out at xs ys in record { place = rw (l, ← g .place, ← g .after) (h .place); after = rw (l, ← g .place, ← g .after) (h .after) }
+    let l = rest ys g in record { place = rw l (h .place); after = rw l (h .after) }

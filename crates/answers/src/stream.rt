@@ -1,0 +1,190 @@
+// Standard input taken apart into lines, each answered by a line of standard output.
+ghost use Prim.Native.Nat.{_+_, _≤_};
+ghost use lib.ListN.{length};
+use crate::answer;
+use libc::STDIN_FILENO;
+use libc::STDOUT_FILENO;
+
+// Lines of up to 393,215 bytes are held. A word of one spells at most half as many bytes, and its answer is at most a few bytes longer
+// than itself, so it fits in half the output.
+const INPUT: usize = 393216;
+
+const BYTES: usize = 196608;
+
+const OUTPUT: usize = 1048576;
+
+fn flush(out: &[u8], at: usize) {
+    if at <= out.len() {
+        io::write_all(STDOUT_FILENO, &out[..at]);
+    }
+}
+
+fn answer_line(
+    line: &[u8],
+    first: &mut [u8],
+    second: &mut [u8],
+    out: &mut [u8],
+    at: usize,
+) -> usize {
+    let mut from = at;
+    if out.len() / 2 < at {
+        flush(out, at);
+        from = 0;
+    }
+    let behind = answer(line, first, second, out, from);
+    lines::put(out, behind, b"\n")
+}
+
+// Answers each line that ends among the first `n` bytes, and says where what is left of them begins.
+fn answer_lines(
+    n: usize,
+    input: &[u8],
+    first: &mut [u8],
+    second: &mut [u8],
+    out: &mut [u8],
+) -> usize
+    requires { ⌜ n ≤ length (now input) ⌝ }
+    ensures { λ r. ⌜ r ≤ n ⌝ }
+{
+    let mut start = 0;
+    let mut at = 0;
+    let mut end = bytes::scan::find(input, 0, n, b'\n');
+    while end < n {
+        at = answer_line(&input[start..end], first, second, out, at);
+        start = end + 1;
+        end = bytes::scan::find(input, start, n, b'\n');
+    }
+    flush(out, at);
+    start
+}
+
+// What a block leaves: bytes of a line that goes on, at the front of the buffer; or a line that is too long, to be skipped to its end.
+struct Rest {
+    held: usize,
+    skipping: bool,
+    more: bool,
+}
+
+fn move_down(s: &mut [u8], from: usize, to: usize)
+    requires { ⌜ (from ≤ to) × (to ≤ length (now s)) ⌝ }
+{
+    let count = to - from;
+    let mut i = 0;
+    while i < count {
+        s[i] = s[from + i];
+        i += 1;
+    }
+}
+
+// The input may end in a line without a line end.
+fn last_line(s: &[u8], first: &mut [u8], second: &mut [u8], out: &mut [u8]) {
+    if s.len() != 0 {
+        let at = answer_line(s, first, second, out, 0);
+        flush(out, at);
+    }
+}
+
+// Goes on after the line that is skipped, if it ends in this block.
+fn skip(n: usize, input: &mut [u8]) -> Rest
+    requires { ⌜ n ≤ length (now input) ⌝ }
+    ensures { λ r. ⌜ r .held ≤ n ⌝ }
+{
+    let end = bytes::scan::find(input, 0, n, b'\n');
+    if end < n {
+        let start = end + 1;
+        move_down(input, start, n);
+        Rest {
+            held: n - start,
+            skipping: false,
+            more: true,
+        }
+    } else {
+        Rest {
+            held: 0,
+            skipping: true,
+            more: n == input.len(),
+        }
+    }
+}
+
+// A block that does not fill the buffer is the last.
+fn block(n: usize, input: &mut [u8], first: &mut [u8], second: &mut [u8], out: &mut [u8]) -> Rest
+    requires { ⌜ n ≤ length (now input) ⌝ }
+    ensures { λ r. ⌜ r .held ≤ n ⌝ }
+{
+    let start = answer_lines(n, input, first, second, out);
+    if n < input.len() {
+        last_line(&input[start..n], first, second, out);
+        return Rest {
+            held: 0,
+            skipping: false,
+            more: false,
+        };
+    }
+    if start == 0 {
+        let at = says::bad(out, 0);
+        let end = lines::put(out, at, b"\n");
+        flush(out, end);
+        return Rest {
+            held: 0,
+            skipping: true,
+            more: true,
+        };
+    }
+    move_down(input, start, n);
+    Rest {
+        held: n - start,
+        skipping: false,
+        more: true,
+    }
+}
+
+fn turn(last: Rest, input: &mut [u8], first: &mut [u8], second: &mut [u8], out: &mut [u8]) -> Rest
+    requires { ⌜ last .held ≤ length (now input) ⌝ }
+    ensures { λ r. ⌜ r .held ≤ length (now (input .exit)) ⌝ }
+{
+    let held = last.held;
+    let n = held + io::read_full(STDIN_FILENO, &mut input[held..]);
+    if last.skipping {
+        skip(n, input)
+    } else {
+        block(n, input, first, second, out)
+    }
+}
+
+// Nothing says that the input ends, so the turns are counted.
+fn run(input: &mut [u8], first: &mut [u8], second: &mut [u8], out: &mut [u8]) {
+    let mut left = Rest {
+        held: 0,
+        skipping: false,
+        more: true,
+    };
+    let mut turns: u64 = 0xffff_ffff_ffff_ffff;
+    while turns > 0 {
+        left = turn(left, input, first, second, out);
+        if left.more {
+            turns -= 1;
+        } else {
+            return;
+        }
+    }
+}
+
+// Arrays whose lengths are in their types, so that nothing has to count their elements.
+fn with_buffers(
+    input: &mut [u8; INPUT],
+    first: &mut [u8; BYTES],
+    second: &mut [u8; BYTES],
+    out: &mut [u8; OUTPUT],
+) {
+    run(input, first, second, out);
+}
+
+// All of the input, to its end.
+pub fn answer_input() {
+    let mut input = [0u8; INPUT];
+    let mut first = [0u8; BYTES];
+    let mut second = [0u8; BYTES];
+    let mut out = [0u8; OUTPUT];
+    with_buffers(&mut input, &mut first, &mut second, &mut out);
+}
