@@ -2,19 +2,34 @@
 // A case is a letter and bytes in hex. t: a text; p: a path; i, s, o, g: an offset, and a buffer of integers (16, 32 and 64 bits), a string,
 // an object path, a signature's text; a: an alignment, an offset, a buffer with padding; w: an end, an offset and a buffer, for the readers that
 // see nothing from the end on (string, path, signature, padding to 8). Where there is an order, little comes first. A line with # is a title.
-use cases::bytes_of;
-use cases::line_end;
-use cases::put;
-use cases::put_number;
-use cases::put_refusal;
 use libc::STDIN_FILENO;
+use libc::STDOUT_FILENO;
+use lines::Taken;
 use meaning::Checked;
 use meaning::Integer;
 use meaning::Length;
 use meaning::Order;
 use meaning::Place;
 use meaning::Reached;
+use meaning::Refusal;
 use text::Text;
+
+fn put(s: &[u8]) {
+    io::write_all(STDOUT_FILENO, s);
+}
+
+fn put_number(n: u64) {
+    io::print_decimal(STDOUT_FILENO, n);
+}
+
+fn put_refusal(r: Refusal) {
+    let fault = r.fault;
+    let place = r.place;
+    put(b" no ");
+    put_number(meaning::number(fault) as u64);
+    put(b" at ");
+    put_number(place.0 as u64);
+}
 
 fn put_checked(c: Checked) {
     match c {
@@ -153,15 +168,17 @@ fn case(line: &[u8]) {
         return;
     }
     let mut out = [0u8; 64];
-    let n = bytes_of(line, &mut out);
+    let Taken::Bytes(n) = lines::bytes_of(lines::tail(line), &mut out) else {
+        return;
+    };
     put(b":");
     run(kind, &out[..n]);
 }
 
-fn lines(s: &[u8]) {
+fn cases(s: &[u8]) {
     let mut at = 0;
     while at < s.len() {
-        let end = line_end(s, at);
+        let end = bytes::scan::find(s, at, s.len(), b'\n');
         case(&s[at..end]);
         put(b"\n");
         if end == s.len() {
@@ -174,5 +191,5 @@ fn lines(s: &[u8]) {
 fn main() {
     let mut input = io::large_buffer();
     let n = io::read_full(STDIN_FILENO, &mut input);
-    lines(&input[..n]);
+    cases(&input[..n]);
 }
