@@ -19,151 +19,166 @@ use meaning::Order;
 use meaning::Place;
 use meaning::Written;
 
-// A padding or a number to write, with the place.
-enum Put {
-    Pad(usize, usize),
-    Word16(Order, usize, u16),
-    Word32(Order, usize, u32),
-    Word64(Order, usize, u64),
+// The names of the questions, as `name_of` packs them.
+const SIG: u64 = 0x01_73_69_67;
+
+const MESSAGE: u64 = 0x01_6d_65_73_73_61_67_65;
+
+const HEADER: u64 = 0x01_68_65_61_64_65_72;
+
+const FIELD: u64 = 0x01_66_69_65_6c_64;
+
+const VALUE: u64 = 0x01_76_61_6c_75_65;
+
+const FIXED: u64 = 0x01_66_69_78_65_64;
+
+const PAD: u64 = 0x01_70_61_64;
+
+const W16: u64 = 0x01_77_31_36;
+
+const W32: u64 = 0x01_77_33_32;
+
+const W64: u64 = 0x01_77_36_34;
+
+const WSTR: u64 = 0x01_77_73_74_72;
+
+const WSIG: u64 = 0x01_77_73_69_67;
+
+// What comes before a question's bytes: a byte order, a place or a field's code, and a number to write or an alignment.
+struct Ask {
+    order: Order,
+    place: usize,
+    number: u64,
 }
 
-// Questions whose last word is their only bytes.
-enum Single {
-    Signature,
-    Message,
-    Header,
-    Write(Put),
-}
-
-// Questions whose last two words are bytes: a signature or a text, and a buffer.
-enum Double {
-    Value(Order, usize),
-    Fixed(Order, usize),
-    WriteString(Order, usize),
-    WriteSignature(usize),
-}
-
-enum Question {
-    Single(Single),
-    Double(Double),
-    Field(u8),
+enum Asked {
+    Is(Ask),
     Bad,
 }
 
-enum Given {
-    Is(Order),
-    Bad,
+// A word of up to seven bytes as one number with a 1 before them, since tests of numbers are quick to prove; 0 for a longer word.
+fn name_of(word: &[u8]) -> u64 {
+    if 7 < word.len() {
+        return 0;
+    }
+    let mut name: u64 = 1;
+    let mut i = 0;
+    while i < word.len() {
+        name = name % 0x0100_0000_0000_0000 * 256 + word[i] as u64;
+        i += 1;
+    }
+    name
 }
 
-fn order_of(word: &[u8]) -> Given {
-    if check::same(word, b"l") {
-        Given::Is(Order::Little)
-    } else if check::same(word, b"B") {
-        Given::Is(Order::Big)
+fn as_asked(order: Order, place: u64, number: u64) -> Asked {
+    Asked::Is(Ask {
+        order,
+        place: place as usize,
+        number,
+    })
+}
+
+fn is_bare(name: u64) -> bool {
+    if name == SIG {
+        true
+    } else if name == MESSAGE {
+        true
     } else {
-        Given::Bad
+        name == HEADER
     }
 }
 
-// A code above 255 is no field's, as 0 is none.
-fn code_of(n: u64) -> u8 {
-    if n < 256 { n as u8 } else { 0 }
-}
-
-fn bare(word: &[u8]) -> Question {
-    if check::same(word, b"sig") {
-        Question::Single(Single::Signature)
-    } else if check::same(word, b"message") {
-        Question::Single(Single::Message)
-    } else if check::same(word, b"header") {
-        Question::Single(Single::Header)
+// Whether two words of bytes follow the byte order and the place.
+fn takes_two(name: u64) -> bool {
+    if name == VALUE {
+        true
+    } else if name == FIXED {
+        true
     } else {
-        Question::Bad
+        name == WSTR
     }
 }
 
-// A number comes before the bytes: a place, or a field's code.
-fn placed(word: &[u8], words: &[u8]) -> Question {
+// Whether a number of this width is written, and holds it: one that it does not hold is no question.
+fn holds(name: u64, n: u64) -> bool {
+    if name == W64 {
+        true
+    } else if name == W32 {
+        n < 0x1_0000_0000
+    } else if name == W16 {
+        n < 0x1_0000
+    } else {
+        false
+    }
+}
+
+fn numbered(order: Order, place: u64, words: &[u8]) -> Asked {
+    match lines::number_of(lines::head(words)) {
+        Number::Is(n) => as_asked(order, place, n),
+        Number::Bad => Asked::Bad,
+    }
+}
+
+// The number that comes first is a place or a field's code; the byte order does not matter.
+fn placed(name: u64, words: &[u8]) -> Asked {
     let Number::Is(n) = lines::number_of(lines::head(words)) else {
-        return Question::Bad;
+        return Asked::Bad;
     };
-    if check::same(word, b"field") {
-        return Question::Field(code_of(n));
-    }
-    if check::same(word, b"wsig") {
-        return Question::Double(Double::WriteSignature(n as usize));
-    }
-    if check::same(word, b"pad") {
-        padding(n as usize, lines::tail(words))
+    if name == PAD {
+        numbered(Order::Little, n, lines::tail(words))
+    } else if name == WSIG {
+        as_asked(Order::Little, n, 0)
+    } else if name == FIELD {
+        as_asked(Order::Little, n, 0)
     } else {
-        Question::Bad
+        Asked::Bad
     }
 }
 
-fn padding(place: usize, words: &[u8]) -> Question {
-    match lines::number_of(lines::head(words)) {
-        Number::Is(n) => Question::Single(Single::Write(Put::Pad(place, n as usize))),
-        Number::Bad => Question::Bad,
-    }
-}
-
-// A byte order and a place come before the rest.
-fn ordered(word: &[u8], words: &[u8]) -> Question {
-    let Given::Is(order) = order_of(lines::head(words)) else {
-        return Question::Bad;
+fn in_order(name: u64, order: Order, words: &[u8]) -> Asked {
+    let Number::Is(place) = lines::number_of(lines::head(words)) else {
+        return Asked::Bad;
     };
-    let rest = lines::tail(words);
-    let Number::Is(n) = lines::number_of(lines::head(rest)) else {
-        return Question::Bad;
-    };
-    let place = n as usize;
-    if check::same(word, b"value") {
-        return Question::Double(Double::Value(order, place));
+    if takes_two(name) {
+        return as_asked(order, place, 0);
     }
-    if check::same(word, b"fixed") {
-        return Question::Double(Double::Fixed(order, place));
-    }
-    if check::same(word, b"wstr") {
-        return Question::Double(Double::WriteString(order, place));
-    }
-    numbered(word, order, place, lines::tail(rest))
-}
-
-fn numbered(word: &[u8], order: Order, place: usize, words: &[u8]) -> Question {
-    match lines::number_of(lines::head(words)) {
-        Number::Is(n) => of_width(word, order, place, n),
-        Number::Bad => Question::Bad,
-    }
-}
-
-// A number that the width does not hold is no question.
-fn of_width(word: &[u8], order: Order, place: usize, n: u64) -> Question {
-    if check::same(word, b"w64") {
-        return Question::Single(Single::Write(Put::Word64(order, place, n)));
-    }
-    if n < 0x1_0000_0000 {
-        if check::same(word, b"w32") {
-            return Question::Single(Single::Write(Put::Word32(order, place, n as u32)));
+    match lines::number_of(lines::head(lines::tail(words))) {
+        Number::Is(n) => {
+            if holds(name, n) {
+                as_asked(order, place, n)
+            } else {
+                Asked::Bad
+            }
         }
+        Number::Bad => Asked::Bad,
     }
-    if n < 0x1_0000 {
-        if check::same(word, b"w16") {
-            return Question::Single(Single::Write(Put::Word16(order, place, n as u16)));
-        }
-    }
-    Question::Bad
 }
 
-// By the number of gaps between the words after the first.
-fn question_of(word: &[u8], words: &[u8], gaps: usize) -> Question {
+fn ordered(name: u64, words: &[u8]) -> Asked {
+    let letter = name_of(lines::head(words));
+    if letter == 0x01_6c {
+        in_order(name, Order::Little, lines::tail(words))
+    } else if letter == 0x01_42 {
+        in_order(name, Order::Big, lines::tail(words))
+    } else {
+        Asked::Bad
+    }
+}
+
+// By the number of gaps between the words after the name.
+fn ask_of(name: u64, words: &[u8], gaps: usize) -> Asked {
     if gaps == 0 {
-        bare(word)
+        if is_bare(name) {
+            as_asked(Order::Little, 0, 0)
+        } else {
+            Asked::Bad
+        }
     } else if gaps == 2 {
-        placed(word, words)
+        placed(name, words)
     } else if gaps == 3 {
-        ordered(word, words)
+        ordered(name, words)
     } else {
-        Question::Bad
+        Asked::Bad
     }
 }
 
@@ -183,57 +198,77 @@ fn behind(line: &[u8], words: usize) -> &[u8] {
     lines::tail(second)
 }
 
-fn write_number(put: Put, buf: &mut [u8]) -> Written {
-    match put {
-        Put::Pad(place, n) => write::pad_to_align(Length(n), buf, Place(place)),
-        Put::Word16(order, place, n) => write::write_u16(n, order, buf, Place(place)),
-        Put::Word32(order, place, n) => write::write_u32(n, order, buf, Place(place)),
-        Put::Word64(order, place, n) => write::write_u64(n, order, buf, Place(place)),
+// A number is written by its width, which holds it.
+fn write_number(name: u64, ask: Ask, buf: &mut [u8]) -> Written {
+    let order = ask.order;
+    let place = Place(ask.place);
+    let n = ask.number;
+    if name == W16 {
+        write::write_u16((n % 0x1_0000) as u16, order, buf, place)
+    } else if name == W32 {
+        write::write_u32((n % 0x1_0000_0000) as u32, order, buf, place)
+    } else if name == W64 {
+        write::write_u64(n, order, buf, place)
+    } else {
+        write::pad_to_align(Length(n as usize), buf, place)
     }
 }
 
-fn of_one(q: Single, buf: &mut [u8], out: &mut [u8], at: usize) -> usize {
-    match q {
-        Single::Signature => says::counted(out, at, signature::validate_signature(buf)),
-        Single::Message => says::checked(out, at, unmarshal::check_message(buf)),
-        Single::Header => says::header(out, at, unmarshal::unmarshal_header(buf)),
-        Single::Write(put) => {
-            let w = write_number(put, buf);
-            says::written(out, at, w, buf)
-        }
+fn say_header(buf: &[u8], out: &mut [u8], at: usize) -> usize {
+    let read = unmarshal::unmarshal_header(buf);
+    says::header(out, at, read)
+}
+
+fn of_one(name: u64, ask: Ask, buf: &mut [u8], out: &mut [u8], at: usize) -> usize {
+    if name == SIG {
+        says::counted(out, at, signature::validate_signature(buf))
+    } else if name == MESSAGE {
+        says::checked(out, at, unmarshal::check_message(buf))
+    } else if name == HEADER {
+        say_header(buf, out, at)
+    } else {
+        let w = write_number(name, ask, buf);
+        says::written(out, at, w, buf)
     }
 }
 
-fn one(q: Single, word: &[u8], buf: &mut [u8], out: &mut [u8], at: usize) -> usize {
+// Questions whose last word is their only bytes.
+fn one(name: u64, ask: Ask, word: &[u8], buf: &mut [u8], out: &mut [u8], at: usize) -> usize {
     let Taken::Bytes(k) = lines::bytes_of(word, buf) else {
         return says::bad(out, at);
     };
-    of_one(q, &mut buf[..k], out, at)
+    of_one(name, ask, &mut buf[..k], out, at)
 }
 
-fn of_two(q: Double, s: &[u8], buf: &mut [u8], out: &mut [u8], at: usize) -> usize {
-    match q {
-        Double::Value(order, n) => {
-            let c = validate_raw::validate_marshalled(order, Place(n), buf, s);
-            says::checked(out, at, c)
-        }
-        Double::Fixed(order, n) => {
-            let r = read::unmarshal_fixed(order, Place(n), buf, s);
-            says::fixed(out, at, r)
-        }
-        Double::WriteString(order, n) => {
-            let w = write::write_string(s, order, buf, Place(n));
-            says::written(out, at, w, buf)
-        }
-        Double::WriteSignature(n) => {
-            let w = write::write_signature(s, buf, Place(n));
-            says::written(out, at, w, buf)
-        }
+fn write_bytes(name: u64, ask: Ask, s: &[u8], buf: &mut [u8]) -> Written {
+    let order = ask.order;
+    let place = Place(ask.place);
+    if name == WSTR {
+        write::write_string(s, order, buf, place)
+    } else {
+        write::write_signature(s, buf, place)
     }
 }
 
+fn of_two(name: u64, ask: Ask, s: &[u8], buf: &mut [u8], out: &mut [u8], at: usize) -> usize {
+    let order = ask.order;
+    let place = Place(ask.place);
+    if name == VALUE {
+        let c = validate_raw::validate_marshalled(order, place, buf, s);
+        says::checked(out, at, c)
+    } else if name == FIXED {
+        let r = read::unmarshal_fixed(order, place, buf, s);
+        says::fixed(out, at, r)
+    } else {
+        let w = write_bytes(name, ask, s, buf);
+        says::written(out, at, w, buf)
+    }
+}
+
+// Questions whose last two words are bytes: a signature or a text, and a buffer.
 fn two(
-    q: Double,
+    name: u64,
+    ask: Ask,
     words: &[u8],
     text: &mut [u8],
     buf: &mut [u8],
@@ -246,7 +281,12 @@ fn two(
     let Taken::Bytes(k) = lines::bytes_of(lines::tail(words), buf) else {
         return says::bad(out, at);
     };
-    of_two(q, &text[..n], &mut buf[..k], out, at)
+    of_two(name, ask, &text[..n], &mut buf[..k], out, at)
+}
+
+// A code above 255 is no field's, as 0 is none.
+fn code_of(n: usize) -> u8 {
+    if n < 256 { n as u8 } else { 0 }
 }
 
 // The text of a message's field, or the fallback.
@@ -267,14 +307,43 @@ fn field(
     says::text(out, at, unmarshal::lookup(&text[..n], code, &buf[..k]))
 }
 
+fn with_bytes(
+    name: u64,
+    ask: Ask,
+    words: &[u8],
+    text: &mut [u8],
+    buf: &mut [u8],
+    out: &mut [u8],
+    at: usize,
+) -> usize {
+    if name == FIELD {
+        field(code_of(ask.place), words, text, buf, out, at)
+    } else {
+        two(name, ask, words, text, buf, out, at)
+    }
+}
+
+fn is_single(name: u64) -> bool {
+    if is_bare(name) {
+        true
+    } else if name == PAD {
+        true
+    } else {
+        holds(name, 0)
+    }
+}
+
 fn answer(line: &[u8], text: &mut [u8], buf: &mut [u8], out: &mut [u8], at: usize) -> usize {
+    let name = name_of(lines::head(line));
     let words = lines::tail(line);
     let gaps = lines::count(words, b' ');
-    match question_of(lines::head(line), words, gaps) {
-        Question::Single(q) => one(q, behind(words, gaps), buf, out, at),
-        Question::Double(q) => two(q, behind(line, gaps), text, buf, out, at),
-        Question::Field(code) => field(code, behind(line, gaps), text, buf, out, at),
-        Question::Bad => says::bad(out, at),
+    let Asked::Is(ask) = ask_of(name, words, gaps) else {
+        return says::bad(out, at);
+    };
+    if is_single(name) {
+        one(name, ask, behind(words, gaps), buf, out, at)
+    } else {
+        with_bytes(name, ask, behind(line, gaps), text, buf, out, at)
     }
 }
 
