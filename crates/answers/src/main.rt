@@ -19,7 +19,7 @@ use meaning::Order;
 use meaning::Place;
 use meaning::Written;
 
-// The names of the questions, as `name_of` packs them.
+// The names of the questions and of the byte orders, as `name_of` packs them.
 const SIG: u64 = 0x01_73_69_67;
 
 const MESSAGE: u64 = 0x01_6d_65_73_73_61_67_65;
@@ -43,6 +43,10 @@ const W64: u64 = 0x01_77_36_34;
 const WSTR: u64 = 0x01_77_73_74_72;
 
 const WSIG: u64 = 0x01_77_73_69_67;
+
+const LITTLE: u64 = 0x01_6c;
+
+const BIG: u64 = 0x01_42;
 
 // What comes before a question's bytes: a byte order, a place or a field's code, and a number to write or an alignment.
 struct Ask {
@@ -156,9 +160,9 @@ fn in_order(name: u64, order: Order, words: &[u8]) -> Asked {
 
 fn ordered(name: u64, words: &[u8]) -> Asked {
     let letter = name_of(lines::head(words));
-    if letter == 0x01_6c {
+    if letter == LITTLE {
         in_order(name, Order::Little, lines::tail(words))
-    } else if letter == 0x01_42 {
+    } else if letter == BIG {
         in_order(name, Order::Big, lines::tail(words))
     } else {
         Asked::Bad

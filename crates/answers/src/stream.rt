@@ -5,8 +5,8 @@ use crate::answer;
 use libc::STDIN_FILENO;
 use libc::STDOUT_FILENO;
 
-// Lines of up to 393,215 bytes are held. A word of one spells at most half as many bytes, and its answer is at most a few bytes longer
-// than itself, so it fits in half the output.
+// Lines of up to 393,215 bytes are held. A word of one spells at most half as many bytes, and its answer is at most some hundred bytes
+// longer than itself, so it fits in half the output.
 const INPUT: usize = 393216;
 
 const BYTES: usize = 196608;
