@@ -1,8 +1,7 @@
 -- One turn of the loops over a header's numbers and entries, and where they end.
-use Prim.Native.Nat.{ℕ, zero, suc, _+_, _≤_, _<_}
-use native.Mathlib.Omega.{arith}
+use Prim.Native.Nat.{ℕ, suc, _+_, _≤_, _<_}
 use native.Mathlib.Numerals.{add-one}
-use mathlib.Core.Path.{_≡_, refl, ap, sym, _∙_}
+use mathlib.Core.Path.{_≡_, ap, sym, _∙_}
 use mathlib.Core.List.{List, [], _∷_, _++_}
 use lib.ListN.{length, drop, getD, drop-of-length-le}
 use lib.Seq.{drop-cons}
@@ -32,13 +31,3 @@ pub entries-end : (out out₀ : List ℕ) (at at₀ : ℕ) (es all : List Entry)
 unfolding entriesTexts putAll
 entries-end out out₀ at at₀ es all i h q =
     let e = rw (drop-of-length-le es {i = i} h) at q in record { place = ap (λ (r : Put). r .place) e; after = ap (λ (r : Put). r .after) e }
-
--- past the end of a list stands nothing of it
-pub past : {A : Type 0} (xs : List A) (d : A) (i : ℕ) → length xs ≤ i → d ≡ getD xs i d
-past [] d i h = refl
-past (x ∷ xs) d zero h = absurd (omega arith)
-past (x ∷ xs) d (suc i) h = past xs d i (omega arith)
-
--- the tests of a chain, one after the other
-pub over : (k i : ℕ) → k ≤ i → (i ≡ k → ⊥) → suc k ≤ i
-over k i h n = omega arith

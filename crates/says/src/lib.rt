@@ -1,6 +1,7 @@
 // Answers as text, put into a buffer that the caller lends. Each function answers the place behind its text.
 ghost use mathlib.Core.Path.{_≡_};
 ghost use mathlib.Core.List.{[], _∷_};
+ghost use Prim.Native.Nat.{_<_};
 ghost use lib.ListN.{getD};
 ghost use Rattle.meaning.specs.Message.{mark as markOf, kindCode};
 ghost use Rattle.lines.specs.Digits.{decimal};
@@ -218,52 +219,48 @@ fn code_of(kind: MessageType) -> u64
 
 // The numbers of a header, in the order in which they are said.
 fn number_at(h: Header, i: usize) -> u64
+    requires { ⌜ i < 6 ⌝ }
     ensures { λ r. ⌜ r ≡ getD (numbersOf h) i 0 ⌝ }
 {
-    if i == 0 {
-        let kind = h.kind;
-        code_of(kind)
-    } else if i == 1 {
-        h.flags as u64
-    } else if i == 2 {
-        h.version as u64
-    } else if i == 3 {
-        h.serial as u64
-    } else if i == 4 {
-        let body = h.body;
-        body.0 as u64
-    } else if i == 5 {
-        let size = h.body_length;
-        size.0 as u64
-    } else {
-        0
-    }
+    let kind = h.kind;
+    let body = h.body;
+    let size = h.body_length;
+    let all = [
+        code_of(kind),
+        h.flags as u64,
+        h.version as u64,
+        h.serial as u64,
+        body.0 as u64,
+        size.0 as u64,
+    ];
+    all[i]
 }
 
 fn entry_at(f: Fields, i: usize) -> Entry
+    requires { ⌜ i < 9 ⌝ }
     ensures { λ r. ⌜ r ≡ getD (entriesOf f) i Entry.Absent ⌝ }
 {
-    if i == 0 {
-        f.object
-    } else if i == 1 {
-        f.interface
-    } else if i == 2 {
-        f.member
-    } else if i == 3 {
-        f.error_name
-    } else if i == 4 {
-        f.response_serial
-    } else if i == 5 {
-        f.destination
-    } else if i == 6 {
-        f.sender
-    } else if i == 7 {
-        f.signature
-    } else if i == 8 {
-        f.num_fds
-    } else {
-        Entry::Absent
-    }
+    let object = f.object;
+    let interface = f.interface;
+    let member = f.member;
+    let error_name = f.error_name;
+    let response_serial = f.response_serial;
+    let destination = f.destination;
+    let sender = f.sender;
+    let signature = f.signature;
+    let num_fds = f.num_fds;
+    let all = [
+        object,
+        interface,
+        member,
+        error_name,
+        response_serial,
+        destination,
+        sender,
+        signature,
+        num_fds,
+    ];
+    all[i]
 }
 
 fn length_of(h: Header) -> u64
