@@ -62,7 +62,7 @@ fn is_mark(c: u8) -> bool
     if c == b'l' { true } else { c == b'B' }
 }
 
-fn byteorder(c: u8) -> Order
+pub fn byteorder(c: u8) -> Order
     ensures { λ r. ⌜ r ≡ orderOf c ⌝ }
 {
     if c == b'l' { Order::Little } else { Order::Big }

@@ -1,0 +1,14 @@
+-- Either number.
+use borrow.Author.Tests.{eq-eqb, ne-eqb}
+use borrow.Author.Needs.{needs}
+use Rattle.stream.proofs.is_short.Statement.{statement}
+use Rattle.stream.proofs.is_short.Tie as tie
+
+returns : tie.Need-returns
+returns c = rw (← c .before .number .ensures) (simp (eq-eqb _ _ (c .if1 .taken)))
+
+returns-2 : tie.Need-returns-2
+returns-2 c = rw (← c .before .number .ensures) (simp (ne-eqb _ _ (c .if1 .left)))
+
+pub is-short-spec : {M : Type 1} → statement M
+is-short-spec = tie.close (tie.spec (λ c κs. search needs) returns returns-2)
