@@ -1,0 +1,160 @@
+// The bytes around a place, sixteen a row, with the byte at the place in brackets.
+ghost use Prim.Native.Nat.{_≤_};
+ghost use lib.ListN.{length};
+
+// No byte of a row is at the place.
+const NONE: usize = 17;
+
+pub fn is_plain(b: u8) -> bool {
+    if b < b' ' { false } else { b < 127 }
+}
+
+// What stands before the cell `k` of a row whose cell `mark` is in brackets.
+fn lead(out: &mut [u8], at: usize, k: usize, mark: usize) -> usize
+    requires { ⌜ k ≤ 16 ⌝ }
+{
+    if k == mark {
+        return lines::put(out, at, b"[");
+    }
+    if 0 < k {
+        if k - 1 == mark {
+            return lines::put(out, at, b"]");
+        }
+    }
+    lines::put(out, at, b" ")
+}
+
+// A byte in two digits; past the end there is none.
+fn cell(out: &mut [u8], at: usize, row: &[u8], k: usize) -> usize {
+    if k < row.len() {
+        let one = [row[k]];
+        return lines::put_bytes(out, at, &one);
+    }
+    lines::put(out, at, b"  ")
+}
+
+fn cells(out: &mut [u8], at: usize, row: &[u8], mark: usize) -> usize {
+    let mut behind = at;
+    let mut k = 0;
+    while k < 16 {
+        let digits = lead(out, behind, k, mark);
+        behind = cell(out, digits, row, k);
+        k += 1;
+    }
+    lead(out, behind, 16, mark)
+}
+
+// A byte as a letter, or a dot if it is none.
+fn letter(out: &mut [u8], at: usize, b: u8) -> usize {
+    if is_plain(b) {
+        let one = [b];
+        return lines::put(out, at, &one);
+    }
+    lines::put(out, at, b".")
+}
+
+fn letters(out: &mut [u8], at: usize, row: &[u8]) -> usize {
+    let mut behind = at;
+    let mut k = 0;
+    while k < row.len() {
+        if k == 16 {
+            return behind;
+        }
+        behind = letter(out, behind, row[k]);
+        k += 1;
+    }
+    behind
+}
+
+// A number with blanks before it, up to ten places.
+fn right(out: &mut [u8], at: usize, n: u64) -> usize {
+    let blanks = [b' '; 10];
+    let mut text = [0u8; 20];
+    let k = io::decimal(n, &mut text);
+    if k < 10 {
+        let gap = 10 - k;
+        let behind = lines::put(out, at, &blanks[..gap]);
+        return lines::put(out, behind, &text[..k]);
+    }
+    lines::put(out, at, &text[..k])
+}
+
+// A row: where it begins in the message and in the stream, its bytes, and its letters.
+fn row(out: &mut [u8], at: usize, bytes: &[u8], from: usize, first: u64, mark: usize) -> usize {
+    let message = right(out, at, from as u64);
+    let stream = right(out, message, std::num::wrapping_add_u64(first, from as u64));
+    let gap = lines::put(out, stream, b" ");
+    let end = cells(out, gap, bytes, mark);
+    let bar = lines::put(out, end, b" ");
+    let all = letters(out, bar, bytes);
+    lines::put(out, all, b"\n")
+}
+
+// The cell that is in brackets in the row from `from` on.
+fn in_row(from: usize, mark: usize) -> usize {
+    if mark < from {
+        return NONE;
+    }
+    if mark - from < 16 { mark - from } else { NONE }
+}
+
+// Up to `most` rows from `start` on, as far as `last`.
+fn rows(
+    out: &mut [u8],
+    at: usize,
+    message: &[u8],
+    first: u64,
+    start: usize,
+    last: usize,
+    mark: usize,
+    most: usize,
+) -> usize
+    requires { ⌜ (start ≤ last) × (last ≤ length (now message)) ⌝ }
+{
+    let mut behind = at;
+    let mut from = start;
+    let mut left = most;
+    while 0 < left {
+        behind = row(
+            out,
+            behind,
+            &message[from..],
+            from,
+            first,
+            in_row(from, mark),
+        );
+        if last - from < 16 {
+            return behind;
+        }
+        from += 16;
+        left -= 1;
+    }
+    behind
+}
+
+fn least(a: usize, b: usize) -> usize
+    ensures { λ r. ⌜ r ≤ b ⌝ }
+{
+    if a < b { a } else { b }
+}
+
+// The last byte to show: the message's last, or the place past it.
+fn last_of(size: usize, mark: usize) -> usize
+    requires { ⌜ mark ≤ size ⌝ }
+    ensures { λ r. ⌜ (mark ≤ r) × (r ≤ size) ⌝ }
+{
+    if mark < size { size - 1 } else { mark }
+}
+
+// The rows around the byte at `place` of a message that begins at the byte `first` of the stream. A fault at the place 0 may lie anywhere in
+// the head, so more of that is shown.
+pub fn place(out: &mut [u8], at: usize, message: &[u8], first: u64, place: usize) -> usize {
+    let mark = least(place, message.len());
+    let last = last_of(message.len(), mark);
+    let titled = lines::put(out, at, b"   message    stream\n");
+    if mark < 48 {
+        return rows(out, titled, message, first, 0, last, mark, 12);
+    }
+    let start = mark / 16 * 16 - 32;
+    rows(out, titled, message, first, start, last, mark, 5)
+}
