@@ -13,8 +13,37 @@
 extern "C" {
 #endif
 
-/* number 0: accepted, and length counts. Any other number is a refusal (docs of the project, "When the relay says no"): position counts, and
-   length is 0. */
+/* Why something is refused. 2 and 3 mean "too short": more bytes may help. Any other refusal stays, whatever bytes follow. */
+enum mt_refusal {
+    MT_BAD_OFFSET = 1,                       /* the offset or the place to write at lies behind the end of the buffer */
+    MT_NOT_ENOUGH_BYTES = 2,                 /* the bytes end too early, or an array's length is not a whole number of elements */
+    MT_NOT_ENOUGH_BYTES_FOR_COLLECTION = 3,  /* an array or a dict is longer than the bytes that are there for it */
+    MT_PADDING_CONTAINED_DATA = 4,           /* a padding byte is not zero */
+    MT_INVALID_BOOLEAN = 5,                  /* a boolean is neither 0 nor 1 */
+    MT_INVALID_UTF8 = 6,                     /* a text is not valid UTF-8 */
+    MT_STRING_CONTAINS_NULL_BYTE = 7,        /* a text has a zero byte inside */
+    MT_MISSING_TERMINATOR = 8,               /* the byte behind a text is not zero */
+    MT_INVALID_OBJECT_PATH = 9,              /* an object path breaks the rule: a slash before each part, and parts of letters, digits and _ */
+    MT_INVALID_SIGNATURE = 10,               /* a signature does not spell types */
+    MT_EMPTY_SIGNATURE = 11,                 /* a signature is empty where at least one type is asked for */
+    MT_EMPTY_STRUCT = 12,                    /* a signature has a struct without fields */
+    MT_SIGNATURE_TOO_LONG = 13,              /* a signature has more than 255 bytes */
+    MT_NESTING_TOO_DEEP = 14,                /* a signature has a type inside of more than 31 arrays or more than 31 structs */
+    MT_WRONG_SIGNATURE = 15,                 /* a variant does not have exactly one type, or a header field has another type than its own */
+    MT_VARIANT_TOO_DEEP = 16,                /* more than 16 variants stand inside each other */
+    MT_INVALID_BYTE_ORDER = 17,              /* the first byte of a message is neither l nor B */
+    MT_INVALID_MESSAGE_TYPE = 18,            /* the type of a message is not 1 to 4: call, reply, error or signal */
+    MT_NO_SIGNATURE = 19,                    /* the signature of a header field is not one type */
+    MT_INVALID_HEADER_FIELD = 20,            /* a header field has the code 0 */
+    MT_INVALID_HEADER_FIELDS = 21,           /* a header field that this type of message needs is absent, or a known one stands twice */
+    MT_BODY_LEFT = 22,                       /* bytes of the body remain behind its last value */
+    MT_NO_ROOM = 23,                         /* the buffer has too little room behind the place for what is to be written */
+    MT_BAD_ALIGNMENT = 24,                   /* the alignment asked for is not 1, 2, 4 or 8 */
+    MT_TEXT_TOO_LONG = 25,                   /* a string has more than 4294967295 bytes */
+    MT_BAD_ARGUMENT = 26,                    /* the signature given by the caller is not exactly one type, or not a type that this call takes */
+};
+
+/* number 0: accepted, and length counts. Any other number is an mt_refusal: position counts, and length is 0. */
 struct mt_answer {
     uint64_t number;
     uint64_t position;
