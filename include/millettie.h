@@ -13,7 +13,7 @@
 extern "C" {
 #endif
 
-/* Why something is refused. 2 and 3 mean "too short": more bytes may help. Any other refusal stays, whatever bytes follow. */
+/* Why something is refused. 2 and 3 mean "too short": more bytes may help. The other refusals of a reader, but for 1, stay whatever follows. */
 enum mt_refusal {
     MT_BAD_OFFSET = 1,                       /* the offset or the place to write at lies behind the end of the buffer */
     MT_NOT_ENOUGH_BYTES = 2,                 /* the bytes end too early, or an array's length is not a whole number of elements */
