@@ -181,7 +181,7 @@ fn with_buffers(
 }
 
 // All of the input, to its end.
-pub fn answer_input() {
+pub(crate) fn answer_input() {
     let mut input = [0u8; INPUT];
     let mut first = [0u8; BYTES];
     let mut second = [0u8; BYTES];

@@ -5,7 +5,7 @@ ghost use lib.ListN.{length};
 // No byte of a row is at the place.
 const NONE: usize = 17;
 
-pub fn is_plain(b: u8) -> bool {
+pub(crate) fn is_plain(b: u8) -> bool {
     if b < b' ' { false } else { b < 127 }
 }
 
@@ -148,7 +148,7 @@ fn last_of(size: usize, mark: usize) -> usize
 
 // The rows around the byte at `place` of a message that begins at the byte `first` of the stream. A fault at the place 0 may lie anywhere in
 // the head, so more of that is shown.
-pub fn place(out: &mut [u8], at: usize, message: &[u8], first: u64, place: usize) -> usize {
+pub(crate) fn place(out: &mut [u8], at: usize, message: &[u8], first: u64, place: usize) -> usize {
     let mark = least(place, message.len());
     let last = last_of(message.len(), mark);
     let titled = lines::put(out, at, b"   message    stream\n");

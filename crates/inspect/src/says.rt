@@ -12,7 +12,7 @@ use meaning::Refusal;
 const SHOWN: usize = 200;
 
 // `count` bytes from `first` on, as far as there are any.
-pub fn part(s: &[u8], first: usize, count: usize) -> &[u8] {
+pub(crate) fn part(s: &[u8], first: usize, count: usize) -> &[u8] {
     let all = s.len();
     if all < first {
         return &s[all..];
@@ -120,7 +120,7 @@ fn fields(out: &mut [u8], at: usize, message: &[u8], all: Fields) -> usize {
 }
 
 // Number and place of a message, which open its paragraph.
-pub fn head(out: &mut [u8], at: usize, count: u64, first: u64) -> usize {
+pub(crate) fn head(out: &mut [u8], at: usize, count: u64, first: u64) -> usize {
     let behind = number(out, at, b"message ", count);
     let place = number(out, behind, b" at byte ", first);
     lines::put(out, place, b": ")
@@ -161,7 +161,7 @@ fn body(out: &mut [u8], at: usize, size: u64, place: u64) -> usize {
 }
 
 // A message by its header, without number and place; `message` begins with it.
-pub fn whole(out: &mut [u8], at: usize, message: &[u8], header: Header) -> usize {
+pub(crate) fn whole(out: &mut [u8], at: usize, message: &[u8], header: Header) -> usize {
     let kind = header.kind;
     let order = header.order;
     let length = header.length;
@@ -195,7 +195,13 @@ fn position(out: &mut [u8], at: usize, place: usize, first: u64) -> usize {
 }
 
 // A refusal without the message's number and place; `message` is what is there of the message.
-pub fn refused(out: &mut [u8], at: usize, first: u64, message: &[u8], refusal: Refusal) -> usize {
+pub(crate) fn refused(
+    out: &mut [u8],
+    at: usize,
+    first: u64,
+    message: &[u8],
+    refusal: Refusal,
+) -> usize {
     let fault = refusal.fault;
     let place = refusal.place;
     let code = meaning::number(fault);
@@ -208,7 +214,14 @@ pub fn refused(out: &mut [u8], at: usize, first: u64, message: &[u8], refusal: R
 }
 
 // A message of which `there` bytes are there, and the stream ends.
-pub fn cut(out: &mut [u8], at: usize, count: u64, first: u64, there: u64, size: u64) -> usize {
+pub(crate) fn cut(
+    out: &mut [u8],
+    at: usize,
+    count: u64,
+    first: u64,
+    there: u64,
+    size: u64,
+) -> usize {
     let opened = head(out, at, count, first);
     let line = lines::put(out, opened, b"CUT OFF\n    the stream ends after ");
     if there < 16 {
@@ -226,7 +239,14 @@ pub fn cut(out: &mut [u8], at: usize, count: u64, first: u64, there: u64, size: 
 }
 
 // A message that the buffer of `room` bytes does not hold.
-pub fn too_large(out: &mut [u8], at: usize, count: u64, first: u64, size: u64, room: u64) -> usize {
+pub(crate) fn too_large(
+    out: &mut [u8],
+    at: usize,
+    count: u64,
+    first: u64,
+    size: u64,
+    room: u64,
+) -> usize {
     let opened = head(out, at, count, first);
     let line = lines::put(
         out,
@@ -250,7 +270,7 @@ fn sum(out: &mut [u8], at: usize, count: u64, size: u64) -> usize {
 }
 
 // The stream ends, `rest` bytes into a message.
-pub fn ended(out: &mut [u8], at: usize, count: u64, first: u64, rest: u64) -> usize {
+pub(crate) fn ended(out: &mut [u8], at: usize, count: u64, first: u64, rest: u64) -> usize {
     let behind = sum(out, at, count, first);
     if rest != 0 {
         let inside = lines::put(out, behind, b"the stream ENDS INSIDE A MESSAGE, ");
@@ -263,7 +283,7 @@ pub fn ended(out: &mut [u8], at: usize, count: u64, first: u64, rest: u64) -> us
 }
 
 // The program stops at the byte `first`, with `left` bytes of the stream from there on.
-pub fn stopped(out: &mut [u8], at: usize, count: u64, first: u64, left: u64) -> usize {
+pub(crate) fn stopped(out: &mut [u8], at: usize, count: u64, first: u64, left: u64) -> usize {
     let behind = sum(out, at, count, first);
     let place = number(out, behind, b"STOPPED at byte ", first);
     let why = lines::put(

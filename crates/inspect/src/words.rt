@@ -2,7 +2,7 @@
 use meaning::MessageType;
 use meaning::Order;
 
-pub fn kind(out: &mut [u8], at: usize, kind: MessageType) -> usize {
+pub(crate) fn kind(out: &mut [u8], at: usize, kind: MessageType) -> usize {
     match kind {
         MessageType::Call => lines::put(out, at, b"method call"),
         MessageType::Reply => lines::put(out, at, b"method return"),
@@ -11,7 +11,7 @@ pub fn kind(out: &mut [u8], at: usize, kind: MessageType) -> usize {
     }
 }
 
-pub fn order(out: &mut [u8], at: usize, order: Order) -> usize {
+pub(crate) fn order(out: &mut [u8], at: usize, order: Order) -> usize {
     match order {
         Order::Little => lines::put(out, at, b"little-endian"),
         Order::Big => lines::put(out, at, b"big-endian"),
@@ -19,7 +19,7 @@ pub fn order(out: &mut [u8], at: usize, order: Order) -> usize {
 }
 
 // The name of a header field, by its code.
-pub fn field(out: &mut [u8], at: usize, code: usize) -> usize {
+pub(crate) fn field(out: &mut [u8], at: usize, code: usize) -> usize {
     match code {
         1 => lines::put(out, at, b"    path          "),
         2 => lines::put(out, at, b"    interface     "),
@@ -50,7 +50,7 @@ fn line(text: &[u8], before: u8) -> &[u8] {
 }
 
 // A refusal's name in document 01 and what it means, by its number: a line for each, from 1 to 26.
-pub fn refusal(out: &mut [u8], at: usize, number: u8) -> usize {
+pub(crate) fn refusal(out: &mut [u8], at: usize, number: u8) -> usize {
     let table = b"(not a refusal)
 BadOffset: the offset or the writing place lies behind the end of the bytes
 NotEnoughBytes: a value, a field or a padding runs past its end, or an array's length is not a whole number of elements
