@@ -2,18 +2,23 @@
 use crate::sides::Case;
 use std::collections::HashMap;
 
-/// Lines `CASE SIDE NUMBER..`.
+/// Lines `CASE SIDE NUMBER..`. Of several lines for a side, as several passes give, the least number of each column counts.
 pub struct Figures(HashMap<(String, String), Vec<f64>>);
 
 impl Figures {
     pub fn read(path: &str) -> Figures {
-        let text = std::fs::read_to_string(path).expect(path);
-        let line = |line: &str| {
-            let mut words = line.split_whitespace().map(String::from);
-            let key = (words.next()?, words.next()?);
-            Some((key, words.map(|word| word.parse().expect(&word)).collect()))
-        };
-        Figures(text.lines().filter_map(line).collect())
+        let mut all: HashMap<_, Vec<f64>> = HashMap::new();
+        for line in std::fs::read_to_string(path).expect(path).lines() {
+            let mut words = line.split(' ').map(String::from);
+            let mut word = || words.next().expect(path);
+            let key = (word(), word());
+            let numbers = words.map(|word| word.parse().expect(path)).collect();
+            let least = all.entry(key).or_insert_with(|| Vec::clone(&numbers));
+            for (least, number) in least.iter_mut().zip(numbers) {
+                *least = least.min(number);
+            }
+        }
+        Figures(all)
     }
 
     /// The number in that column, if there is one.
@@ -37,29 +42,29 @@ fn cell(number: Option<f64>, width: usize, digits: usize) -> String {
     }
 }
 
-/// A row for each side of a case but the crate's, with its costs and the crate's.
+/// A row for each side of a case but the crate's, with its costs, the crate's, and how many times the crate's they are.
 pub fn report(cases: &[Case], times: &Figures, counts: &Figures) {
     println!(
-        "{:18} {:>6} {:8} {:>11} {:>11} {:>7} {:>7} {:>11} {:>11} {:>7}",
-        "", "", "", "crate", "it", "ratio of", "ratio of", "crate", "it", ""
+        "{:24} {:8} {:^39} {:^29}",
+        "", "", "nanoseconds", "instructions"
     );
     println!(
-        "{:18} {:>6} {:8} {:>11} {:>11} {:>7} {:>7} {:>11} {:>11} {:>7}",
-        "case", "bytes", "by", "ns", "ns", "minima", "medians", "instr.", "instr.", "ratio"
+        "{:17} {:>6} {:8} {:>10} {:>10} {:>8} {:>8} {:>10} {:>10} {:>7}",
+        "case", "bytes", "by", "crate", "it", "ratio", "medians'", "crate", "it", "ratio"
     );
     for case in cases.iter().filter(|case| case.listed) {
         for side in &case.names()[1..] {
-            print!("{:18} {:6} {side:8}", case.group, case.bytes);
-            for side in ["crate", side] {
-                print!(" {}", cell(times.of(case, side, 0), 11, 0));
-            }
-            for column in [0, 1] {
-                print!(" {}", cell(times.ratio(case, side, column), 7, 3));
-            }
-            for side in ["crate", side] {
-                print!(" {}", cell(counts.of(case, side, 0), 11, 0));
-            }
-            println!(" {}", cell(counts.ratio(case, side, 0), 7, 3));
+            let cells = [
+                cell(times.of(case, "crate", 0), 10, 0),
+                cell(times.of(case, side, 0), 10, 0),
+                cell(times.ratio(case, side, 0), 8, 2),
+                cell(times.ratio(case, side, 1), 8, 2),
+                cell(counts.of(case, "crate", 0), 10, 0),
+                cell(counts.of(case, side, 0), 10, 0),
+                cell(counts.ratio(case, side, 0), 7, 2),
+            ];
+            let (group, bytes) = (&case.group, case.bytes);
+            println!("{group:17} {bytes:6} {side:8} {}", cells.join(" "));
         }
     }
 }

@@ -56,24 +56,23 @@ pub fn cases() -> Vec<Case> {
     };
     for kind in TEXTS {
         for bytes in SIZES {
-            case(
-                format!("s {kind}"),
-                bytes,
-                LISTED.contains(&bytes),
-                What::Text(kind),
-            );
+            let listed = LISTED.contains(&bytes);
+            case(format!("s {kind}"), bytes, listed, What::Text(kind));
         }
     }
     for (sig, least) in ARRAYS {
-        for bytes in SIZES
-            .into_iter()
-            .filter(|bytes| *bytes == BIG || PLOTTED.contains(&sig) && *bytes >= least)
-        {
+        let from = if PLOTTED.contains(&sig) { least } else { BIG };
+        for bytes in SIZES.into_iter().filter(|bytes| *bytes >= from) {
             case(sig.into(), bytes, bytes == BIG, What::Array(sig));
         }
     }
     case("message signal".into(), BIG, true, What::Message(signal));
-    case("message call".into(), 200, true, What::Message(call));
+    case(
+        "message call".into(),
+        call().len(),
+        true,
+        What::Message(call),
+    );
     for name in BODIES {
         case(format!("write {name}"), BIG, true, What::Body(name));
     }
