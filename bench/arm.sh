@@ -1,5 +1,7 @@
 # Sourced by bench/run on Arm, behind rust/prepare.sh, which says how x86-64 programs are built and run there: another way to count, and the same
-# library for the machine itself. It never ran on an Arm machine.
+# library for the machine itself.
+# It never ran on an Arm machine. Its parts were tried on x86-64: the module was kept and compiled for Arm, the program with it ran under Debian's
+# emulator of Arm and agreed with the crate on every case, and the toolchain's emulator for Arm, run by that one, counted a case.
 
 # lines `CASE SIDE INSTRUCTIONS` of the x86-64 program: the emulator logs a line for each instruction; two calls less one, less an empty call
 count() {

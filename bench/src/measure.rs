@@ -5,6 +5,7 @@ use std::time::Instant;
 
 type Call<'a> = &'a dyn Fn() -> usize;
 
+#[inline(never)]
 fn seconds(call: Call, times: u64) -> f64 {
     let start = Instant::now();
     for _ in 0..times {
@@ -71,7 +72,7 @@ pub fn count(cases: &[Case]) {
 pub fn run(cases: &[Case], id: &str, side: &str, times: u64) {
     let Some(case) = cases.iter().find(|case| case.id() == id) else {
         assert_eq!(id, "-", "no such case");
-        seconds(&|| 0, times);
+        seconds(black_box(&|| 0), times);
         return;
     };
     let place = case
