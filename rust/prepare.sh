@@ -1,4 +1,4 @@
-# Sourced at the root of the repository by rust/test and agree/run. Proves and builds libmillettie.a, which is x86-64 code, and says how
+# Sourced at the root of the repository by rust/test, agree/run and bench/run. Proves and builds libmillettie.a, which is x86-64 code, and says how
 # programs that link it are built and run here: sets what cargo reads, CC (the C compiler and its options for the machine) and RUN (what
 # runs a program; nothing on x86-64).
 #
