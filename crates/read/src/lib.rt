@@ -8,7 +8,7 @@ ghost use Rattle.meaning.specs.Signature.{codeFix};
 ghost use Rattle.meaning.specs.ReadValue.{valid as validOf, readFix};
 ghost use Rattle.meaning.specs.FixedValue.{signed, double as doubleOf, fixedValue, fixedFrom, readFixed};
 ghost use Rattle.meaning.specs.Writers.{isAlignment};
-ghost use Rattle.util.specs.Loaded.{Loaded};
+ghost use Rattle.integers.specs.Loaded.{Loaded};
 ghost use Rattle.read.specs.Coded.{Coded, Holds};
 ghost use Rattle.read.specs.Bits.{letterOf, extended as extendedOf, doubleBits, bitsOf};
 use meaning::Fault;
@@ -92,11 +92,11 @@ fn load(order: Order, buf: &[u8], at: usize, width: usize) -> u64
     ensures { λ r. ⌜ Loaded order width (now (buf .entry)) at r ⌝ }
 {
     if width == 8 {
-        util::load64(order, buf, at)
+        integers::load64(order, buf, at)
     } else if width == 4 {
-        util::load32(order, buf, at)
+        integers::load32(order, buf, at)
     } else if width == 2 {
-        util::load16(order, buf, at)
+        integers::load16(order, buf, at)
     } else {
         buf[at] as u64
     }

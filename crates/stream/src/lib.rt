@@ -33,8 +33,8 @@ pub fn stated_size(buf: &[u8]) -> usize
         return 16;
     }
     let order = unmarshal::byteorder(buf[0]);
-    let end = 16 + util::load32(order, buf, 12) as usize;
-    end + util::gap(8, end) + util::load32(order, buf, 4) as usize
+    let end = 16 + integers::load32(order, buf, 12) as usize;
+    end + util::gap(8, end) + integers::load32(order, buf, 4) as usize
 }
 
 // The answer for the message at the start of the buffer.

@@ -2,5 +2,4 @@ pub mod Table
 pub mod Classes
 pub mod Scans
 pub mod Names
-pub mod Strings
 pub mod OneAnswer

@@ -63,21 +63,21 @@ fn put_integer(i: Integer) {
 }
 
 fn integers(order: Order, off: usize, buf: &[u8]) {
-    put_integer(util::parse_u16(order, Place(off), buf));
-    put_integer(util::parse_u32(order, Place(off), buf));
-    put_integer(util::parse_u64(order, Place(off), buf));
+    put_integer(integers::parse_u16(order, Place(off), buf));
+    put_integer(integers::parse_u32(order, Place(off), buf));
+    put_integer(integers::parse_u64(order, Place(off), buf));
 }
 
 fn strings(off: usize, buf: &[u8]) {
-    put_checked(text::unmarshal_str(Order::Little, Place(off), buf));
+    put_checked(strings::unmarshal_str(Order::Little, Place(off), buf));
     put(b",");
-    put_checked(text::unmarshal_str(Order::Big, Place(off), buf));
+    put_checked(strings::unmarshal_str(Order::Big, Place(off), buf));
 }
 
 fn object_paths(off: usize, buf: &[u8]) {
-    put_checked(text::unmarshal_object_path(Order::Little, Place(off), buf));
+    put_checked(strings::unmarshal_object_path(Order::Little, Place(off), buf));
     put(b",");
-    put_checked(text::unmarshal_object_path(Order::Big, Place(off), buf));
+    put_checked(strings::unmarshal_object_path(Order::Big, Place(off), buf));
 }
 
 fn windows(end: usize, off: usize, buf: &[u8]) {
@@ -87,11 +87,11 @@ fn windows(end: usize, off: usize, buf: &[u8]) {
     if end < off {
         return;
     }
-    put_reached(text::read_string(Order::Little, buf, end, off));
+    put_reached(strings::read_string(Order::Little, buf, end, off));
     put(b",");
-    put_reached(text::read_path(Order::Little, buf, end, off));
+    put_reached(strings::read_path(Order::Little, buf, end, off));
     put(b",");
-    put_reached(text::read_signature_text(buf, end, off));
+    put_reached(strings::read_signature_text(buf, end, off));
     put(b",");
     put_reached(util::padded(buf, end, off, 8));
 }
@@ -139,7 +139,7 @@ fn of_one(kind: u8, off: usize, buf: &[u8]) {
     } else if kind == b'o' {
         object_paths(off, buf);
     } else if kind == b'g' {
-        put_checked(text::unmarshal_signature_text(Place(off), buf));
+        put_checked(strings::unmarshal_signature_text(Place(off), buf));
     } else {
         of_two(kind, off, buf);
     }

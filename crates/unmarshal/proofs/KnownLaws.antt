@@ -24,7 +24,7 @@ use Rattle.meaning.proofs.Local.{bind-got, bind-fault, bind-inv, ret-inv}
 use Rattle.meaning.proofs.Meets.{here-bind, bytes-bind-inv, check-bind-inv}
 use Rattle.meaning.proofs.BaseMeets.{accept-inv}
 use Rattle.meaning.proofs.Loop.{at-inv, refused-inv}
-use Rattle.text.proofs.Strings.{text-part}
+use Rattle.strings.proofs.Strings.{text-part}
 use Rattle.util.specs.Entry.{Window}
 use Rattle.util.proofs.Windows.{seen}
 use Rattle.validate_raw.proofs.SpellLaws.{text-at}

@@ -103,8 +103,8 @@ fn fixed(buf: &[u8]) -> Began
                 kind: message_type(buf[1]),
                 flags: buf[2],
                 version: buf[3],
-                serial: util::load32(order, buf, 8) as u32,
-                body: util::load32(order, buf, 4) as usize,
+                serial: integers::load32(order, buf, 8) as u32,
+                body: integers::load32(order, buf, 4) as usize,
             })
         } else {
             Began::Refused(meaning::refuse(Fault::InvalidMessageType, 0))
@@ -119,7 +119,7 @@ fn one_type(buf: &[u8], end: usize, off: usize) -> Opened
     requires { ⌜ Window (now buf) end off ⌝ }
     ensures { λ r. ⌜ ((o : Order) → OneIs r o (now (buf .entry)) end off) ⌝ }
 {
-    match text::read_signature_text(buf, end, off) {
+    match strings::read_signature_text(buf, end, off) {
         Reached::At(place) => {
             let next = place.0;
             let first = off + 1;
@@ -169,7 +169,7 @@ fn known(order: Order, code: u8, k: u8, buf: &[u8], end: usize, off: usize) -> F
                 Reached::At(past) => {
                     let next = past.0;
                     if k == b'u' {
-                        let number = util::load32(order, buf, at) as u32;
+                        let number = integers::load32(order, buf, at) as u32;
                         FieldRead::Read(next, code as usize, Entry::Number(number))
                     } else if k == b'g' {
                         let first = at + 1;
@@ -418,7 +418,7 @@ pub fn unmarshal_header(buf: &[u8]) -> HeaderRead
                 return HeaderRead::Refused(meaning::refuse(Fault::NotEnoughBytes, 0));
             }
             let order = start.order;
-            let len = util::load32(order, buf, 12) as usize;
+            let len = integers::load32(order, buf, 12) as usize;
             if buf.len() - 16 < len {
                 return HeaderRead::Refused(meaning::refuse(Fault::NotEnoughBytes, 0));
             }

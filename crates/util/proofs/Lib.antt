@@ -1,5 +1,3 @@
-pub mod Loads
 pub mod Windows
 pub mod Pads
-pub mod Integers
 pub mod OneAnswer

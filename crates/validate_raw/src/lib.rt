@@ -73,7 +73,7 @@ fn opening(order: Order, buf: &[u8], end: usize, off: usize, align: usize) -> Op
             if end - at < 4 {
                 return Opened::Shut(meaning::refuse(Fault::NotEnoughBytes, at));
             }
-            let len = util::load32(order, buf, at) as usize;
+            let len = integers::load32(order, buf, at) as usize;
             contents(buf, end, at + 4, len, align)
         }
         Reached::Refused(refusal) => Opened::Shut(refusal),
@@ -129,7 +129,7 @@ fn boolean(order: Order, buf: &[u8], end: usize, off: usize) -> Reached
     if end - off < 4 {
         return Reached::Refused(meaning::refuse(Fault::NotEnoughBytes, off));
     }
-    if util::load32(order, buf, off) < 2 {
+    if integers::load32(order, buf, off) < 2 {
         Reached::At(Place(off + 4))
     } else {
         Reached::Refused(meaning::refuse(Fault::InvalidBoolean, off))
@@ -141,7 +141,7 @@ fn spelled_types(buf: &[u8], end: usize, off: usize) -> Spelt
     requires { ⌜ Window (now buf) end off ⌝ }
     ensures { λ r. ⌜ ((o : Order) → r ≡ speltOf (spelledR o (take end (now (buf .entry))) off)) ⌝ }
 {
-    match text::read_signature_text(buf, end, off) {
+    match strings::read_signature_text(buf, end, off) {
         Reached::At(place) => {
             let next = place.0;
             let first = off + 1;
@@ -174,8 +174,8 @@ pub fn bare(order: Order, k: u8, buf: &[u8], end: usize, off: usize) -> Reached
     ensures { λ r. ⌜ ((c : Base) → k ≡ code c → r ≡ reachedOf (bareR order c (take end (now (buf .entry))) off)) ⌝ }
 {
     match k {
-        b's' => text::read_string(order, buf, end, off),
-        b'o' => text::read_path(order, buf, end, off),
+        b's' => strings::read_string(order, buf, end, off),
+        b'o' => strings::read_path(order, buf, end, off),
         b'g' => signature_value(buf, end, off),
         b'b' => boolean(order, buf, end, off),
         _ => fixed(buf, end, off, types::size(k)),

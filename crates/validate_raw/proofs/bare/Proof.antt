@@ -15,8 +15,8 @@ use Rattle.validate_raw.proofs.bare.Statement.{statement}
 use Rattle.validate_raw.proofs.bare.Tie as tie
 use Rattle.validate_raw.proofs.bare.Reads as reads
 use Rattle.validate_raw.proofs.bare.Lts as lts
-use Rattle.text.proofs.read_path.Reads as read-path-reads
-use Rattle.text.proofs.read_string.Reads as read-string-reads
+use Rattle.strings.proofs.read_path.Reads as read-path-reads
+use Rattle.strings.proofs.read_string.Reads as read-string-reads
 use Rattle.types.proofs.size.Reads as size-reads
 use Rattle.validate_raw.proofs.boolean.Reads as boolean-reads
 use Rattle.validate_raw.proofs.fixed.Reads as fixed-reads

@@ -11,7 +11,7 @@ use Rattle.validate_raw.proofs.opening.Tie as tie
 use Rattle.validate_raw.proofs.opening.Reads as reads
 use Rattle.validate_raw.proofs.opening.Lts as lts
 use Rattle.meaning.proofs.refuse.Reads as refuse-reads
-use Rattle.util.proofs.load32.Reads as load32-reads
+use Rattle.integers.proofs.load32.Reads as load32-reads
 use Rattle.util.proofs.padded.Reads as padded-reads
 use Rattle.validate_raw.proofs.contents.Reads as contents-reads
 

@@ -10,7 +10,7 @@ use Rattle.validate_raw.proofs.spelled_types.Reads as reads
 use Rattle.validate_raw.proofs.spelled_types.Lts as lts
 use Rattle.meaning.proofs.refuse.Reads as refuse-reads
 use Rattle.signature.proofs.parse_description.Reads as parse-description-reads
-use Rattle.text.proofs.read_signature_text.Reads as read-signature-text-reads
+use Rattle.strings.proofs.read_signature_text.Reads as read-signature-text-reads
 
 read-signature-text-requires : tie.Need-read-signature-text-requires
 read-signature-text-requires c κs = search needs
