@@ -248,9 +248,9 @@ fn write_bytes(name: u64, ask: Ask, s: &[u8], buf: &mut [u8]) -> Written {
     let order = ask.order;
     let place = Place(ask.place);
     if name == WSTR {
-        write::write_string(s, order, buf, place)
+        write_text::write_string(s, order, buf, place)
     } else {
-        write::write_signature(s, buf, place)
+        write_text::write_signature(s, buf, place)
     }
 }
 

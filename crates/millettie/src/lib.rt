@@ -384,7 +384,7 @@ pub extern "C" fn mt_write_string(buf: &mut [u8], place: usize, text: &[u8], big
 {
     of_written(
         place,
-        write::write_string(text, order(big), buf, Place(place)),
+        write_text::write_string(text, order(big), buf, Place(place)),
     )
 }
 
@@ -393,5 +393,5 @@ pub extern "C" fn mt_write_signature(buf: &mut [u8], place: usize, sig: &[u8]) -
     ensures { λ r. ⌜ ((o : Order) → r ≡ writtenOf place (writeAt (signatureBytes o (now (sig .entry))) (now (buf .entry)) place .answer)) ⌝ }
     ensures { λ r. ⌜ ((o : Order) → now (buf .exit) ≡ writeAt (signatureBytes o (now (sig .entry))) (now (buf .entry)) place .after) ⌝ }
 {
-    of_written(place, write::write_signature(sig, buf, Place(place)))
+    of_written(place, write_text::write_signature(sig, buf, Place(place)))
 }

@@ -1,5 +1,2 @@
-pub mod Stores
-pub mod Writes
-pub mod Contents
-pub mod Back
+pub mod Paddings
 pub mod OneAnswer

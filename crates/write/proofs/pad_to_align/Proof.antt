@@ -1,8 +1,8 @@
 -- The tests are those of `writeAt` and `paddingBytes`, in their order.
 use mathlib.Core.Path.{refl, sym, _∙_}
 use lib.ListN.{length-replicate}
-use Rattle.write.proofs.Contents.{aligned, not-aligned}
-use Rattle.write.proofs.Writes.{outside, is-faulty, is-bytes, no-room, stored}
+use Rattle.write.proofs.Paddings.{aligned, not-aligned}
+use Rattle.store.proofs.Writes.{outside, is-faulty, is-bytes, no-room, stored}
 use borrow.Author.Needs.{needs}
 use Rattle.write.proofs.pad_to_align.Statement.{statement}
 use Rattle.write.proofs.pad_to_align.Tie as tie

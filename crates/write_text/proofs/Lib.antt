@@ -1,0 +1,3 @@
+pub mod Contents
+pub mod Back
+pub mod OneAnswer
