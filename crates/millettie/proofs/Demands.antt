@@ -12,8 +12,8 @@ use Rattle.meaning.specs.declared.Entry.the-variants.{Absent, Number, Text}
 use Rattle.meaning.proofs.NumberLaws.{Bytes}
 use Rattle.unmarshal.specs.Found.{foundIn, cutOf}
 use Rattle.unmarshal.proofs.LookupLaws.{found-is}
-use Rattle.millettie.specs.Answers.{partOf}
-use Rattle.millettie.specs.declared.MtPart.{MtPart}
+use Rattle.structs.specs.Answers.{partOf}
+use Rattle.structs.specs.declared.MtPart.{MtPart}
 
 -- the bytes that a part says: of the message, or of the fallback
 abbrev pub bytesOf : MtPart → List ℕ → List ℕ → List ℕ

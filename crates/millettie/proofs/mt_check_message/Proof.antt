@@ -1,6 +1,6 @@
 -- The check, handed out.
 use mathlib.Core.Path.{ap, _∙_}
-use Rattle.millettie.specs.Answers.{answerOf}
+use Rattle.structs.specs.Answers.{answerOf}
 use borrow.Author.Needs.{needs}
 use Rattle.millettie.proofs.mt_check_message.Statement.{statement}
 use Rattle.millettie.proofs.mt_check_message.Tie as tie

@@ -1,6 +1,6 @@
 -- The count, handed out.
 use mathlib.Core.Path.{ap, _∙_}
-use Rattle.millettie.specs.Answers.{countOf}
+use Rattle.structs.specs.Answers.{countOf}
 use borrow.Author.Needs.{needs}
 use Rattle.millettie.proofs.mt_check_signature.Statement.{statement}
 use Rattle.millettie.proofs.mt_check_signature.Tie as tie

@@ -2,7 +2,7 @@
 use mathlib.Core.Path.{ap, _∙_}
 use Rattle.meaning.specs.declared.Order.{Order}
 use Rattle.meaning.specs.ReadValue.{checkValue}
-use Rattle.millettie.specs.Answers.{answerOf}
+use Rattle.structs.specs.Answers.{answerOf}
 use borrow.Author.Needs.{needs}
 use Rattle.millettie.proofs.mt_check_value.Statement.{statement}
 use Rattle.millettie.proofs.mt_check_value.Tie as tie

@@ -5,9 +5,10 @@ use Rattle.meaning.specs.declared.Order.{Order}
 use Rattle.meaning.specs.declared.FixedRead.{FixedRead}
 use Rattle.meaning.specs.ReadValue.{checkValue}
 use Rattle.meaning.specs.FixedValue.{readFixed}
-use Rattle.millettie.specs.declared.MtAnswer.{MtAnswer}
+use Rattle.structs.specs.declared.MtAnswer.{MtAnswer}
 use Rattle.millettie.specs.declared.MtFixed.{MtFixed}
-use Rattle.millettie.specs.Answers.{orderOf, fixedOf}
+use Rattle.structs.specs.Answers.{orderOf}
+use Rattle.millettie.specs.Fixed.{fixedOf}
 use borrow.Author.Needs.{needs}
 use Rattle.millettie.proofs.mt_read_fixed.Statement.{statement}
 use Rattle.millettie.proofs.mt_read_fixed.Tie as tie

@@ -2,8 +2,8 @@
 use mathlib.Core.Path.{sym, ap, subst, _∙_}
 use Rattle.meaning.specs.declared.Order.{Order}
 use Rattle.meaning.specs.Writers.{writeAt, integerBytes}
-use Rattle.millettie.specs.Answers.{Past, writtenOf}
-use Rattle.millettie.proofs.Writes.{write-past}
+use Rattle.structs.specs.Answers.{Past, writtenOf}
+use Rattle.structs.proofs.Writes.{write-past}
 use borrow.Author.Needs.{needs}
 use Rattle.millettie.proofs.mt_write_u64.Statement.{statement}
 use Rattle.millettie.proofs.mt_write_u64.Tie as tie
