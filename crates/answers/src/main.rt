@@ -227,7 +227,7 @@ fn of_one(name: u64, ask: Ask, buf: &mut [u8], out: &mut [u8], at: usize) -> usi
     if name == SIG {
         says::counted(out, at, signature::validate_signature(buf))
     } else if name == MESSAGE {
-        says::checked(out, at, unmarshal::check_message(buf))
+        says::checked(out, at, check_message::check_message(buf))
     } else if name == HEADER {
         say_header(buf, out, at)
     } else {
@@ -308,7 +308,7 @@ fn field(
     let Taken::Bytes(k) = lines::bytes_of(lines::tail(words), buf) else {
         return says::bad(out, at);
     };
-    says::text(out, at, unmarshal::lookup(&text[..n], code, &buf[..k]))
+    says::text(out, at, lookup::lookup(&text[..n], code, &buf[..k]))
 }
 
 fn with_bytes(

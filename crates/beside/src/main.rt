@@ -75,7 +75,7 @@ fn of_message(words: &[u8], buf: &mut [u8]) -> Said {
     let Taken::Bytes(n) = lines::bytes_of(lines::head(words), buf) else {
         return Said::NoQuestion;
     };
-    checked(unmarshal::check_message(first(buf, n)))
+    checked(check_message::check_message(first(buf, n)))
 }
 
 // An offset, a signature and bytes.

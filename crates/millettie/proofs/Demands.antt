@@ -10,8 +10,9 @@ use Rattle.meaning.specs.Header.{readHeader, lookup}
 use Rattle.meaning.specs.declared.Entry.{Entry}
 use Rattle.meaning.specs.declared.Entry.the-variants.{Absent, Number, Text}
 use Rattle.meaning.proofs.NumberLaws.{Bytes}
-use Rattle.unmarshal.specs.Found.{foundIn, cutOf}
-use Rattle.unmarshal.proofs.LookupLaws.{found-is}
+use Rattle.body.specs.Steps.{cutOf}
+use Rattle.lookup.specs.Found.{foundIn}
+use Rattle.lookup.proofs.LookupLaws.{found-is}
 use Rattle.structs.specs.Answers.{partOf}
 use Rattle.structs.specs.declared.MtPart.{MtPart}
 

@@ -6,7 +6,7 @@ ghost use Rattle.meaning.specs.ReadMessage.{checkMessage};
 ghost use Rattle.meaning.specs.Header.{readHeader};
 ghost use Rattle.meaning.specs.FixedValue.{readFixed};
 ghost use Rattle.meaning.specs.Writers.{writeAt, paddingBytes, integerBytes, stringBytes, signatureBytes};
-ghost use Rattle.unmarshal.specs.Found.{foundIn};
+ghost use Rattle.lookup.specs.Found.{foundIn};
 ghost use Rattle.structs.specs.Answers.{orderOf, answerOf, countOf, writtenOf, readOf, partOf};
 ghost use Rattle.millettie.specs.Fixed.{fixedOf};
 use meaning::FixedRead;
@@ -47,7 +47,7 @@ pub extern "C" fn mt_check_value(big: bool, offset: usize, buf: &[u8], sig: &[u8
 pub extern "C" fn mt_check_message(buf: &[u8]) -> MtAnswer
     ensures { λ r. ⌜ r ≡ answerOf (checkMessage (now (buf .entry))) ⌝ }
 {
-    structs::of_checked(unmarshal::check_message(buf))
+    structs::of_checked(check_message::check_message(buf))
 }
 
 #[no_mangle]
@@ -80,7 +80,7 @@ pub extern "C" fn mt_read_fixed(big: bool, offset: usize, buf: &[u8], sig: &[u8]
 pub extern "C" fn mt_lookup(message: &[u8], code: u8, fallback: &[u8]) -> MtPart
     ensures { λ r. ⌜ r ≡ partOf (foundIn (readHeader (now (message .entry))) code) (length (now (fallback .entry))) ⌝ }
 {
-    structs::of_found(unmarshal::find(message, code), fallback.len())
+    structs::of_found(lookup::find(message, code), fallback.len())
 }
 
 #[no_mangle]

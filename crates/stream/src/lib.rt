@@ -32,7 +32,7 @@ pub fn stated_size(buf: &[u8]) -> usize
     if buf.len() < 16 {
         return 16;
     }
-    let order = unmarshal::byteorder(buf[0]);
+    let order = fixed_header::byteorder(buf[0]);
     let end = 16 + integers::load32(order, buf, 12) as usize;
     end + util::gap(8, end) + integers::load32(order, buf, 4) as usize
 }

@@ -1,4 +1,4 @@
--- A message by the ways through the code: the first bytes, the table, 21, the padding and the body.
+-- A message up to the end of its field table by the ways through the code: the first bytes, the table, and 21.
 use Prim.Native.Nat.{ℕ, _+_, _-_, _≤_, _<_}
 use native.Mathlib.Omega.{arith}
 use mathlib.Core.Bool.{Bool, true, false}
@@ -12,52 +12,27 @@ use Rattle.meaning.specs.declared.Fields.{Fields}
 use Rattle.meaning.specs.declared.HeaderRead.the-variants.{Refused}
 use Rattle.meaning.specs.declared.Fault.the-variants.{NotEnoughBytes, InvalidByteOrder, InvalidMessageType, InvalidHeaderFields}
 use Rattle.meaning.specs.Faults.{refusal}
-use Rattle.meaning.specs.Signature.{parse}
 use Rattle.meaning.specs.Number.{load}
-use Rattle.meaning.specs.Message.{Field, complete, bodySignature, Fixed, Message}
+use Rattle.meaning.specs.Message.{Field, complete, Fixed}
 use Rattle.meaning.specs.Reader.{Res, got, fault, stop, R, ret, _>>=_, _>>_, check, bytes, many}
-use Rattle.meaning.specs.ReadValue.{padding, accept, lengthR}
-use Rattle.meaning.specs.ReadMessage.{toZero, atZero, inside, isMark, isKind, fixedIn, sizeIn, fixedR, fieldR, tableR, Opened, openR, bodyR, messageOf, readMessage}
-use Rattle.meaning.specs.Header.{headerFrom, readHeader}
-use Rattle.meaning.proofs.Local.{bind-got, bind-fault, bind-inv, bind-is, Ran, ran, stopped, ret-inv, ret-no-fault, fault-inj, bytes-yes, bytes-no, leb-true, leb-false}
+use Rattle.meaning.specs.ReadValue.{padding, lengthR}
+use Rattle.meaning.specs.ReadMessage.{inside, isMark, isKind, fixedIn, sizeIn, fixedR, fieldR, tableR, openR}
+use Rattle.meaning.specs.Header.{readHeader}
+use Rattle.meaning.proofs.Local.{bind-got, bind-fault, bind-inv, bind-is, Ran, ran, stopped, ret-inv, ret-no-fault, fault-inj, bytes-yes, bytes-no}
 use Rattle.meaning.proofs.Meets.{here-bind, check-bind, check-bind-inv, bytes-bind-inv}
 use Rattle.meaning.proofs.MessageLocal.{inside-end, fieldsR-bounded, fieldsR-full}
-use Rattle.unmarshal.specs.declared.Start.{Start}
-use Rattle.unmarshal.specs.declared.Began.{Began}
-use Rattle.unmarshal.specs.declared.Began.the-variants.{Read as Begins, Refused as Unbegun}
-use Rattle.unmarshal.specs.declared.TableRead.{TableRead}
-use Rattle.unmarshal.specs.declared.TableRead.the-variants.{Read as Tabled, Refused as NoTable}
-use Rattle.unmarshal.specs.Steps.{startOf, beganOf, fieldsR, fieldsFrom, tableTo, Held}
-use Rattle.unmarshal.proofs.HeadLaws.{kindThen, markThen, check-stop}
-
-abbrev pub after3 : Fixed × ℕ → List Field → R Opened
-after3 h fs = accept (parse (bodySignature fs)) 0 >>= λ ts. ret (h, (fs, ts))
-
-abbrev pub after2 : Fixed × ℕ → List Field → R Opened
-after2 h fs = check (complete (h .0 .kind) fs) InvalidHeaderFields 0 >> (padding 8 >> after3 h fs)
-
-abbrev pub after1 : Fixed × ℕ → R Opened
-after1 h = tableR (h .0 .order) >>= λ fs. after2 h fs
-
-abbrev pub bodyThen : Opened → R Message
-bodyThen h = inside (h .0 .1) (bodyR (h .0 .0 .order) (h .1 .1)) >>= λ vs. ret (messageOf h vs)
-
--- a window that is too long
-pub inside-over : {A : Type 0} (n : ℕ) (r : R A) (b : List ℕ) (off : ℕ) → length b < off + n → inside n r b off ≡ stop NotEnoughBytes 0
-unfolding inside
-inside-over n r b off h = rw (leb-false (off + n) (length b) h, inside)
-
-pub inside-on : {A : Type 0} (n : ℕ) (r : R A) (b : List ℕ) (off : ℕ) → off + n ≤ length b → inside n r b off ≡ r (take (off + n) b) off
-unfolding inside
-inside-on n r b off h = rw (leb-true (off + n) (length b) h, inside)
+use Rattle.fixed_header.specs.declared.Start.{Start}
+use Rattle.fixed_header.specs.declared.Began.{Began}
+use Rattle.fixed_header.specs.declared.Began.the-variants.{Read as Begins, Refused as Unbegun}
+use Rattle.header_fields.specs.declared.TableRead.{TableRead}
+use Rattle.header_fields.specs.declared.TableRead.the-variants.{Read as Tabled, Refused as NoTable}
+use Rattle.fixed_header.specs.Steps.{startOf, beganOf}
+use Rattle.header_fields.specs.Steps.{fieldsR, fieldsFrom, tableTo}
+use Rattle.body.specs.Steps.{Held}
+use Rattle.fixed_header.proofs.HeadLaws.{kindThen, markThen, check-stop}
+use Rattle.body.proofs.AfterLaws.{after1, after2, after3, inside-on, inside-over, opens, not-opened}
 
 module _ (b : List ℕ) where
-  -- "Faults before the body's values have position 0"
-  pub not-opened : (x y : Refusal) → openR b 0 ≡ fault x → y ≡ refusal (x .fault) 0 → Refused y ≡ readHeader b
-  unfolding readHeader readMessage atZero
-  not-opened x y h e =
-      rw e (sym (ap headerFrom (bind-fault (atZero openR) bodyThen b 0 (refusal (x .fault) 0) (ap toZero h))))
-
   -- the first 12 bytes
   pub not-begun : (q : Began) (x y : Refusal) → q ≡ beganOf (fixedR b 0) → q ≡ Unbegun x → y ≡ refusal (x .fault) 0 → Refused y ≡ readHeader b
   unfolding openR
@@ -65,7 +40,7 @@ module _ (b : List ℕ) where
     where
       go : (z : Res (Fixed × ℕ)) → fixedR b 0 ≡ z → beganOf z ≡ Unbegun x → Refused y ≡ readHeader b
       go (got v m) z w = absurd (let u : _≡_ {A = ℕ} 0 1 = cc in omega arith)
-      go (fault v) z w = let u : v ≡ x = cc in not-opened x y (bind-fault fixedR after1 b 0 x (z ∙ ap (λ (r : Refusal). fault r) u)) e
+      go (fault v) z w = let u : v ≡ x = cc in not-opened b x y (bind-fault fixedR after1 b 0 x (z ∙ ap (λ (r : Refusal). fault r) u)) e
 
   pub record Begun (start : Start) : Type 0 where
     pub head : Fixed × ℕ
@@ -93,12 +68,8 @@ module _ (b : List ℕ) where
     abbrev pub o : Order
     o = h .0 .order
 
-    pub opens : openR b 0 ≡ after1 h b 12
-    unfolding openR
-    opens = bind-got fixedR after1 b 0 h 12 begins
-
     no-table : (x y : Refusal) → tableR o b 12 ≡ fault x → y ≡ refusal (x .fault) 0 → Refused y ≡ readHeader b
-    no-table x y q e = not-opened x y (opens ∙ bind-fault (tableR o) (after2 h) b 12 x q) e
+    no-table x y q e = not-opened b x y (opens b h begins ∙ bind-fault (tableR o) (after2 h) b 12 x q) e
 
     short-of : (y : Refusal) → length b < 16 → y ≡ refusal NotEnoughBytes 0 → Refused y ≡ readHeader b
     unfolding tableR lengthR
@@ -143,8 +114,8 @@ module _ (b : List ℕ) where
             go (stopped v z w) = let u : v ≡ x = fault-inj v x (sym w ∙ q) in no-table x y (fields-are ∙ z ∙ ap (λ (r : Refusal). fault r) u) e
             go (ran fs m z w) =
                 let k = failed fs m (complete (h .0 .kind) fs) refl (sym w ∙ q) in
-                not-opened x y
-                (opens ∙ bind-got (tableR o) (after2 h) b 12 fs m (fields-are ∙ z) ∙ check-stop (complete (h .0 .kind) fs) (refusal InvalidHeaderFields 0) (λ z. padding 8 >> after3 h fs) b m (k .0) ∙ ap (λ (r : Refusal). fault r) (sym (k .1))) e
+                not-opened b x y
+                (opens b h begins ∙ bind-got (tableR o) (after2 h) b 12 fs m (fields-are ∙ z) ∙ check-stop (complete (h .0 .kind) fs) (refusal InvalidHeaderFields 0) (λ z. padding 8 >> after3 h fs) b m (k .0) ∙ ap (λ (r : Refusal). fault r) (sym (k .1))) e
 
         read-fields : (fs : List Field) (m : ℕ) → fieldsR o (h .0 .kind) n part 16 ≡ got fs m → (tableR o b 12 ≡ got fs (16 + n)) × T (complete (h .0 .kind) fs)
         unfolding fieldsR

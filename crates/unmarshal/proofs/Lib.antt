@@ -1,13 +1,2 @@
-pub mod HeadLaws
-pub mod CodeLaws
-pub mod OneLaws
-pub mod KnownLaws
-pub mod FieldLaws
-pub mod TableLaws
-pub mod BodyLaws
-pub mod TextLaws
 pub mod HeaderLaws
-pub mod NextLaws
-pub mod LookupLaws
-pub mod Answers
 pub mod OneAnswer

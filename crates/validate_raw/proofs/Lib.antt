@@ -1,13 +1,3 @@
-pub mod ArrayLaws
-pub mod SpellLaws
-pub mod WalkLaws
-pub mod ElementLaws
-pub mod KeyLaws
-pub mod OpenLaws
-pub mod BaseLaws
-pub mod LoopLaws
-pub mod NestLaws
-pub mod CycleLaws
 pub mod EntryLaws
 pub mod Demands
 pub mod OneAnswer

@@ -8,7 +8,7 @@ use Rattle.millettie.proofs.mt_lookup.Statement.{statement}
 use Rattle.millettie.proofs.mt_lookup.Tie as tie
 
 returns : tie.Need-returns
-returns c = c .of-found .ensures ∙ ap (λ (e : Entry). partOf e (length (c .before .before .before .args .fallback .now))) (c .before .find .ensures)
+returns c = c .of-found .ensures ∙ ap (λ (e : Entry). partOf e (length (c .before .before .before .before .args .fallback .now))) (c .before .find .ensures)
 
 pub mt-lookup-spec : {M : Type 1} → statement M
 mt-lookup-spec =

@@ -1,0 +1,2 @@
+pub mod OpenLaws
+pub mod ArrayLaws

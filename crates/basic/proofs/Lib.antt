@@ -1,0 +1,2 @@
+pub mod BaseLaws
+pub mod LoopLaws

@@ -1,0 +1,4 @@
+pub mod BodyLaws
+pub mod TextLaws
+pub mod AfterLaws
+pub mod NextLaws

@@ -1,0 +1,3 @@
+pub mod CheckedLaws
+pub mod Answers
+pub mod OneAnswer

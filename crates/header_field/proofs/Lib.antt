@@ -1,0 +1,4 @@
+pub mod CodeLaws
+pub mod OneLaws
+pub mod KnownLaws
+pub mod FieldLaws
