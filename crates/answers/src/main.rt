@@ -220,7 +220,7 @@ fn write_number(name: u64, ask: Ask, buf: &mut [u8]) -> Written {
 
 fn say_header(buf: &[u8], out: &mut [u8], at: usize) -> usize {
     let read = unmarshal::unmarshal_header(buf);
-    says::header(out, at, read)
+    says_header::header(out, at, read)
 }
 
 fn of_one(name: u64, ask: Ask, buf: &mut [u8], out: &mut [u8], at: usize) -> usize {
@@ -262,7 +262,7 @@ fn of_two(name: u64, ask: Ask, s: &[u8], buf: &mut [u8], out: &mut [u8], at: usi
         says::checked(out, at, c)
     } else if name == FIXED {
         let r = read::unmarshal_fixed(order, place, buf, s);
-        says::fixed(out, at, r)
+        says_fixed::fixed(out, at, r)
     } else {
         let w = write_bytes(name, ask, s, buf);
         says::written(out, at, w, buf)

@@ -32,7 +32,7 @@ fn answer_line(
         from = 0;
     }
     let behind = answer(line, first, second, out, from);
-    lines::put(out, behind, b"\n")
+    puts::put(out, behind, b"\n")
 }
 
 // Answers each line that ends among the first `n` bytes, and says where what is left of them begins.
@@ -123,7 +123,7 @@ fn block(n: usize, input: &mut [u8], first: &mut [u8], second: &mut [u8], out: &
     }
     if start == 0 {
         let at = says::bad(out, 0);
-        let end = lines::put(out, at, b"\n");
+        let end = puts::put(out, at, b"\n");
         flush(out, end);
         return Rest {
             held: 0,

@@ -1,6 +1,9 @@
 // The bytes around a place, sixteen a row, with the byte at the place in brackets.
 ghost use Prim.Native.Nat.{_≤_};
 ghost use lib.ListN.{length};
+use crate::fill::byte;
+use crate::fill::fill;
+use std::num::wrapping_add_u64;
 
 // No byte of a row is at the place.
 const NONE: usize = 17;
@@ -10,47 +13,43 @@ pub(crate) fn is_plain(b: u8) -> bool {
 }
 
 // What stands before the cell `k` of a row whose cell `mark` is in brackets.
-fn lead(out: &mut [u8], at: usize, k: usize, mark: usize) -> usize
+fn lead(k: usize, mark: usize) -> u8
     requires { ⌜ k ≤ 16 ⌝ }
 {
     if k == mark {
-        return lines::put(out, at, b"[");
+        return b'[';
     }
     if 0 < k {
         if k - 1 == mark {
-            return lines::put(out, at, b"]");
+            return b']';
         }
     }
-    lines::put(out, at, b" ")
+    b' '
 }
 
 // A byte in two digits; past the end there is none.
 fn cell(out: &mut [u8], at: usize, row: &[u8], k: usize) -> usize {
     if k < row.len() {
-        let one = [row[k]];
-        return lines::put_bytes(out, at, &one);
+        let end = k + 1;
+        return puts::put_bytes(out, at, &row[k..end]);
     }
-    lines::put(out, at, b"  ")
+    puts::put(out, at, b"  ")
 }
 
 fn cells(out: &mut [u8], at: usize, row: &[u8], mark: usize) -> usize {
     let mut behind = at;
     let mut k = 0;
     while k < 16 {
-        let digits = lead(out, behind, k, mark);
+        let digits = byte(out, behind, lead(k, mark));
         behind = cell(out, digits, row, k);
         k += 1;
     }
-    lead(out, behind, 16, mark)
+    byte(out, behind, lead(16, mark))
 }
 
 // A byte as a letter, or a dot if it is none.
-fn letter(out: &mut [u8], at: usize, b: u8) -> usize {
-    if is_plain(b) {
-        let one = [b];
-        return lines::put(out, at, &one);
-    }
-    lines::put(out, at, b".")
+fn letter(b: u8) -> u8 {
+    if is_plain(b) { b } else { b'.' }
 }
 
 fn letters(out: &mut [u8], at: usize, row: &[u8]) -> usize {
@@ -60,34 +59,25 @@ fn letters(out: &mut [u8], at: usize, row: &[u8]) -> usize {
         if k == 16 {
             return behind;
         }
-        behind = letter(out, behind, row[k]);
+        behind = byte(out, behind, letter(row[k]));
         k += 1;
     }
     behind
 }
 
-// A number with blanks before it, up to ten places.
-fn right(out: &mut [u8], at: usize, n: u64) -> usize {
-    let blanks = [b' '; 10];
-    let mut text = [0u8; 20];
-    let k = io::decimal(n, &mut text);
-    if k < 10 {
-        let gap = 10 - k;
-        let behind = lines::put(out, at, &blanks[..gap]);
-        return lines::put(out, behind, &text[..k]);
-    }
-    lines::put(out, at, &text[..k])
+// Where a row begins in the message and in the stream.
+fn places(out: &mut [u8], at: usize, from: u64, first: u64) -> usize {
+    let numbers = [from, wrapping_add_u64(first, from)];
+    fill(out, at, b">> ", &numbers)
 }
 
-// A row: where it begins in the message and in the stream, its bytes, and its letters.
+// A row: its places, its bytes, and its letters.
 fn row(out: &mut [u8], at: usize, bytes: &[u8], from: usize, first: u64, mark: usize) -> usize {
-    let message = right(out, at, from as u64);
-    let stream = right(out, message, std::num::wrapping_add_u64(first, from as u64));
-    let gap = lines::put(out, stream, b" ");
-    let end = cells(out, gap, bytes, mark);
-    let bar = lines::put(out, end, b" ");
-    let all = letters(out, bar, bytes);
-    lines::put(out, all, b"\n")
+    let begun = places(out, at, from as u64, first);
+    let end = cells(out, begun, bytes, mark);
+    let gap = byte(out, end, b' ');
+    let all = letters(out, gap, bytes);
+    byte(out, all, b'\n')
 }
 
 // The cell that is in brackets in the row from `from` on.
@@ -151,7 +141,7 @@ fn last_of(size: usize, mark: usize) -> usize
 pub(crate) fn place(out: &mut [u8], at: usize, message: &[u8], first: u64, place: usize) -> usize {
     let mark = least(place, message.len());
     let last = last_of(message.len(), mark);
-    let titled = lines::put(out, at, b"   message    stream\n");
+    let titled = puts::put(out, at, b"   message    stream\n");
     if mark < 48 {
         return rows(out, titled, message, first, 0, last, mark, 12);
     }

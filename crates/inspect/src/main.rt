@@ -1,6 +1,7 @@
 // Prints what stands in a stream of messages, as `dbus-monitor --binary` writes it: a paragraph for each message, and at the first one that
 // is refused why and where. After a refusal nothing vouches for where the next message begins, so it stops there, and says so.
 mod dump;
+mod fill;
 mod says;
 mod words;
 
@@ -16,8 +17,8 @@ use stream::Next;
 // The longest message that is held. There is no heap, and with all else on it a stack of 8 MiB has room for this.
 const INPUT: usize = 6291456;
 
-// Half of it has room for what is said of any message.
-const OUTPUT: usize = 65536;
+// Room for what is said of any message.
+const OUTPUT: usize = 32768;
 
 fn flush(out: &[u8], at: usize) {
     if at <= out.len() {
@@ -25,52 +26,52 @@ fn flush(out: &[u8], at: usize) {
     }
 }
 
-// How many bytes a message took, 0 if none did; where the next text goes; and whether a message was refused.
+// How many bytes a message took, 0 if none did; and whether a message was refused.
 struct Step {
     taken: usize,
-    at: usize,
     refused: bool,
 }
 
 // A whole message: its bytes are taken.
-fn taken(rest: &[u8], first: u64, count: u64, out: &mut [u8], at: usize, header: Header) -> Step
+fn taken(rest: &[u8], first: u64, count: u64, out: &mut [u8], header: Header) -> Step
     requires { ⌜ header .length .0 ≤ length (now rest) ⌝ }
     ensures { λ r. ⌜ r .taken ≤ length (now (rest .entry)) ⌝ }
 {
     let length = header.length;
-    let headed = says::head(out, at, count, first);
+    let headed = says::head(out, 0, count, first);
+    let end = says::whole(out, headed, rest, header);
+    flush(out, end);
     Step {
         taken: length.0,
-        at: says::whole(out, headed, rest, header),
         refused: false,
     }
 }
 
 // A refused message, shown as far as it states and as it is there: nothing is taken.
-fn refused(rest: &[u8], first: u64, count: u64, out: &mut [u8], at: usize, refusal: Refusal) -> Step
+fn refused(rest: &[u8], first: u64, count: u64, out: &mut [u8], refusal: Refusal) -> Step
     ensures { λ r. ⌜ r .taken ≤ 0 ⌝ }
 {
     let stated = says::part(rest, 0, stream::stated_size(rest));
-    let headed = says::head(out, at, count, first);
+    let headed = says::head(out, 0, count, first);
+    let end = says::refused(out, headed, first, stated, refusal);
+    flush(out, end);
     Step {
         taken: 0,
-        at: says::refused(out, headed, first, stated, refusal),
         refused: true,
     }
 }
 
-// The message that `rest` begins with, at the byte `first` of the stream.
-fn message(rest: &[u8], first: u64, count: u64, out: &mut [u8], at: usize) -> Step
+// Prints the message that `rest` begins with, at the byte `first` of the stream.
+fn message(rest: &[u8], first: u64, count: u64, out: &mut [u8]) -> Step
     ensures { λ r. ⌜ r .taken ≤ length (now (rest .entry)) ⌝ }
 {
     match stream::next_message(rest) {
-        Next::Whole(header) => taken(rest, first, count, out, at, header),
+        Next::Whole(header) => taken(rest, first, count, out, header),
         Next::Cut(_) => Step {
             taken: 0,
-            at,
             refused: false,
         },
-        Next::Refused(refusal) => refused(rest, first, count, out, at, refusal),
+        Next::Refused(refusal) => refused(rest, first, count, out, refusal),
     }
 }
 
@@ -88,32 +89,22 @@ fn pass(input: &[u8], n: usize, first: u64, before: u64, out: &mut [u8]) -> Pass
 {
     let mut start = 0;
     let mut count = before;
-    let mut at = 0;
+    let mut refused = false;
     while start < n {
         let place = wrapping_add_u64(first, start as u64);
         let number = wrapping_add_u64(count, 1);
-        let s = message(&input[start..n], place, number, out, at);
-        at = s.at;
+        let s = message(&input[start..n], place, number, out);
+        refused = s.refused;
         if s.taken == 0 {
-            flush(out, at);
-            return Passed {
-                start,
-                count,
-                refused: s.refused,
-            };
+            break;
         }
         start += s.taken;
         count = number;
-        if out.len() / 2 < at {
-            flush(out, at);
-            at = 0;
-        }
     }
-    flush(out, at);
     Passed {
         start,
         count,
-        refused: false,
+        refused,
     }
 }
 
@@ -201,6 +192,39 @@ fn finished(first: u64, count: u64) -> Stand
     }
 }
 
+// The last lines at a message that was refused, or is too large, `held` bytes of which were read; the rest of the stream is counted.
+fn halt(
+    refused: bool,
+    first: u64,
+    count: u64,
+    held: usize,
+    size: usize,
+    input: &mut [u8],
+    out: &mut [u8],
+) {
+    let room = input.len() as u64;
+    let left = wrapping_add_u64(held as u64, drain(input));
+    if refused {
+        stop(first, count, left, out, 0);
+    } else {
+        beyond(first, count, size as u64, left, room, out);
+    }
+}
+
+// Brings the bytes from `start` to `n` to the front of the buffer, if they are not there.
+fn keep(input: &mut [u8], start: usize, n: usize)
+    requires { ⌜ (start ≤ n) × (n ≤ length (now input)) ⌝ }
+{
+    if start != 0 {
+        move_down(input, start, n);
+    }
+}
+
+// Whether the program ends at a message of this size.
+fn is_last(refused: bool, size: usize, room: usize) -> bool {
+    if refused { true } else { room < size }
+}
+
 // What follows the messages among the first `n` bytes of the buffer: a refusal, a message that is too large, or the rest of one that goes on.
 fn after(passed: Passed, first: u64, n: usize, input: &mut [u8], out: &mut [u8]) -> Stand
     requires { ⌜ (passed .start ≤ n) × (n ≤ length (now input)) ⌝ }
@@ -210,20 +234,12 @@ fn after(passed: Passed, first: u64, n: usize, input: &mut [u8], out: &mut [u8])
     let count = passed.count;
     let held = n - start;
     let place = wrapping_add_u64(first, start as u64);
-    if passed.refused {
-        let left = wrapping_add_u64(held as u64, drain(input));
-        stop(place, count, left, out, 0);
-        return finished(place, count);
-    }
     let size = stream::stated_size(&input[start..n]);
-    if input.len() < size {
-        let left = wrapping_add_u64(held as u64, drain(input));
-        beyond(place, count, size as u64, left, input.len() as u64, out);
+    if is_last(passed.refused, size, input.len()) {
+        halt(passed.refused, place, count, held, size, input, out);
         return finished(place, count);
     }
-    if start != 0 {
-        move_down(input, start, n);
-    }
+    keep(input, start, n);
     Stand {
         held,
         first: place,
@@ -232,24 +248,36 @@ fn after(passed: Passed, first: u64, n: usize, input: &mut [u8], out: &mut [u8])
     }
 }
 
+// The stream ends, or a read fails, with `rest` of a message.
+fn over(rest: &[u8], got: isize, first: u64, count: u64, out: &mut [u8]) -> Stand
+    ensures { λ r. ⌜ r .held ≤ 0 ⌝ }
+{
+    at_end(rest, first, count, out);
+    warn(got);
+    finished(first, count)
+}
+
+fn go_on(n: usize, first: u64, count: u64, input: &mut [u8], out: &mut [u8]) -> Stand
+    requires { ⌜ n ≤ length (now input) ⌝ }
+    ensures { λ r. ⌜ r .held ≤ length (now (input .exit)) ⌝ }
+{
+    let passed = pass(input, n, first, count, out);
+    after(passed, first, n, input, out)
+}
+
 // Reads once, so that messages are shown as they come, and prints what is whole by then.
 fn turn(last: Stand, input: &mut [u8], out: &mut [u8]) -> Stand
     requires { ⌜ last .held ≤ length (now input) ⌝ }
     ensures { λ r. ⌜ r .held ≤ length (now (input .exit)) ⌝ }
 {
     let held = last.held;
-    let first = last.first;
-    let count = last.count;
     let got = libc::read(STDIN_FILENO, &mut input[held..]);
     let n = held + io::count(got, &input[held..]);
     if n == held {
         let front = 0;
-        at_end(&input[front..held], first, count, out);
-        warn(got);
-        return finished(first, count);
+        return over(&input[front..held], got, last.first, last.count, out);
     }
-    let passed = pass(input, n, first, count, out);
-    after(passed, first, n, input, out)
+    go_on(n, last.first, last.count, input, out)
 }
 
 fn run(input: &mut [u8], out: &mut [u8]) {

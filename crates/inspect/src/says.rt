@@ -1,11 +1,11 @@
 // What is printed of a message, of a refusal and at the end: each function puts text into the output and says where the next byte goes.
 use crate::dump;
+use crate::fill::byte;
+use crate::fill::fill;
 use crate::words;
 use meaning::Entry;
 use meaning::Fields;
 use meaning::Header;
-use meaning::MessageType;
-use meaning::Order;
 use meaning::Refusal;
 
 // So many bytes of a text are shown.
@@ -26,14 +26,14 @@ pub(crate) fn part(s: &[u8], first: usize, count: usize) -> &[u8] {
 
 // A byte that a terminal shows as itself, or \x and two digits.
 fn safe(out: &mut [u8], at: usize, b: u8) -> usize {
-    let one = [b];
     if dump::is_plain(b) {
         if b != b'\\' {
-            return lines::put(out, at, &one);
+            return byte(out, at, b);
         }
     }
-    let behind = lines::put(out, at, b"\\x");
-    lines::put_bytes(out, behind, &one)
+    let one = [b];
+    let behind = puts::put(out, at, b"\\x");
+    puts::put_bytes(out, behind, &one)
 }
 
 fn escaped(out: &mut [u8], at: usize, s: &[u8]) -> usize {
@@ -52,49 +52,40 @@ fn text(out: &mut [u8], at: usize, s: &[u8]) -> usize {
     if s.len() <= SHOWN {
         return behind;
     }
-    let dots = lines::put(out, behind, b" ... (");
-    counted(out, dots, s.len() as u64, b" byte", b" in all)")
+    let numbers = [s.len() as u64];
+    fill(out, behind, b" ... (# byte% in all)", &numbers)
 }
 
-// The name of things, with an s unless there is one.
-fn things(out: &mut [u8], at: usize, n: u64, thing: &[u8]) -> usize {
-    let behind = lines::put(out, at, thing);
-    if n == 1 {
-        return behind;
-    }
-    lines::put(out, behind, b"s")
+// The name of a header field opens its line.
+fn named(out: &mut [u8], at: usize, code: u64) -> usize {
+    let behind = puts::put(out, at, b"    ");
+    words::field(out, behind, code)
 }
 
-// A number of things, and what follows.
-fn counted(out: &mut [u8], at: usize, n: u64, thing: &[u8], then: &[u8]) -> usize {
-    let digits = lines::put_number(out, at, n);
-    let behind = things(out, digits, n, thing);
-    lines::put(out, behind, then)
+fn number_field(out: &mut [u8], at: usize, code: u64, n: u64) -> usize {
+    let name = named(out, at, code);
+    let behind = puts::put_number(out, name, n);
+    byte(out, behind, b'\n')
 }
 
-fn number(out: &mut [u8], at: usize, word: &[u8], n: u64) -> usize {
-    let behind = lines::put(out, at, word);
-    lines::put_number(out, behind, n)
+fn text_field(out: &mut [u8], at: usize, code: u64, s: &[u8]) -> usize {
+    let name = named(out, at, code);
+    let behind = text(out, name, s);
+    byte(out, behind, b'\n')
 }
 
 // A header field with its name; nothing where it is absent.
-fn field(out: &mut [u8], at: usize, code: usize, message: &[u8], entry: Entry) -> usize {
+fn field(out: &mut [u8], at: usize, code: u64, message: &[u8], entry: Entry) -> usize {
     match entry {
         Entry::Absent => at,
-        Entry::Number(n) => {
-            let named = words::field(out, at, code);
-            let behind = lines::put_number(out, named, n as u64);
-            lines::put(out, behind, b"\n")
-        }
+        Entry::Number(n) => number_field(out, at, code, n as u64),
         Entry::Text(place, length) => {
-            let named = words::field(out, at, code);
-            let behind = text(out, named, part(message, place.0, length.0));
-            lines::put(out, behind, b"\n")
+            text_field(out, at, code, part(message, place.0, length.0))
         }
     }
 }
 
-fn entry_of(fields: Fields, code: usize) -> Entry {
+fn entry_of(fields: Fields, code: u64) -> Entry {
     match code {
         1 => fields.object,
         2 => fields.interface,
@@ -121,77 +112,80 @@ fn fields(out: &mut [u8], at: usize, message: &[u8], all: Fields) -> usize {
 
 // Number and place of a message, which open its paragraph.
 pub(crate) fn head(out: &mut [u8], at: usize, count: u64, first: u64) -> usize {
-    let behind = number(out, at, b"message ", count);
-    let place = number(out, behind, b" at byte ", first);
-    lines::put(out, place, b": ")
+    let numbers = [count, first];
+    fill(out, at, b"message # at byte #: ", &numbers)
 }
 
 // A number that most messages have; it is said where it is another.
-fn unusual(out: &mut [u8], at: usize, word: &[u8], n: u8, usual: u8) -> usize {
+fn unusual(out: &mut [u8], at: usize, template: &[u8], n: u8, usual: u8) -> usize {
     if n == usual {
         return at;
     }
-    number(out, at, word, n as u64)
+    let numbers = [n as u64];
+    fill(out, at, template, &numbers)
 }
 
-// What a message is, and how long.
-fn form(out: &mut [u8], at: usize, kind: MessageType, order: Order, size: u64) -> usize {
-    let named = words::kind(out, at, kind);
-    let comma = lines::put(out, named, b", ");
-    let ordered = words::order(out, comma, order);
-    let next = lines::put(out, ordered, b", ");
-    counted(out, next, size, b" byte", b", ")
+// What a message is, how long, and its serial.
+fn form(out: &mut [u8], at: usize, header: Header) -> usize {
+    let kind = header.kind;
+    let order = header.order;
+    let length = header.length;
+    let numbers = [
+        words::of_kind(kind),
+        words::of_order(order),
+        length.0 as u64,
+        header.serial as u64,
+    ];
+    fill(out, at, b"@, @, # byte%, serial #", &numbers)
 }
 
-fn numbers(out: &mut [u8], at: usize, serial: u32, flags: u8, version: u8) -> usize {
-    let first = number(out, at, b"serial ", serial as u64);
-    let second = unusual(out, first, b", flags ", flags, 0);
-    let third = unusual(out, second, b", version ", version, 1);
-    lines::put(out, third, b"\n")
+fn numbers(out: &mut [u8], at: usize, flags: u8, version: u8) -> usize {
+    let second = unusual(out, at, b", flags #", flags, 0);
+    let third = unusual(out, second, b", version #", version, 1);
+    byte(out, third, b'\n')
 }
 
 fn body(out: &mut [u8], at: usize, size: u64, place: u64) -> usize {
-    let named = lines::put(out, at, b"    body          ");
     if size == 0 {
-        return lines::put(out, named, b"empty\n");
+        return puts::put(out, at, b"    body          empty\n");
     }
-    let sized = counted(out, named, size, b" byte", b" from byte ");
-    let placed = lines::put_number(out, sized, place);
-    lines::put(out, placed, b" of the message on\n")
+    let numbers = [size, place];
+    fill(
+        out,
+        at,
+        b"    body          # byte% from byte # of the message on\n",
+        &numbers,
+    )
 }
 
 // A message by its header, without number and place; `message` begins with it.
 pub(crate) fn whole(out: &mut [u8], at: usize, message: &[u8], header: Header) -> usize {
-    let kind = header.kind;
-    let order = header.order;
-    let length = header.length;
     let all = header.fields;
     let place = header.body;
     let size = header.body_length;
-    let formed = form(out, at, kind, order, length.0 as u64);
-    let titled = numbers(out, formed, header.serial, header.flags, header.version);
+    let formed = form(out, at, header);
+    let titled = numbers(out, formed, header.flags, header.version);
     let named = fields(out, titled, message, all);
     body(out, named, size.0 as u64, place.0 as u64)
 }
 
 // Where a refusal stands. Faults before the body's values all have the position 0.
-fn position(out: &mut [u8], at: usize, place: usize, first: u64) -> usize {
-    let message = number(out, at, b"    position ", place as u64);
-    let file = number(
+fn position(out: &mut [u8], at: usize, place: u64, first: u64) -> usize {
+    let numbers = [place, std::num::wrapping_add_u64(first, place)];
+    let behind = fill(
         out,
-        message,
-        b" in the message, byte ",
-        std::num::wrapping_add_u64(first, place as u64),
+        at,
+        b"    position # in the message, byte # of the stream",
+        &numbers,
     );
-    if place == 0 {
-        lines::put(
-            out,
-            file,
-            b" of the stream (every fault before the body has position 0)\n",
-        )
-    } else {
-        lines::put(out, file, b" of the stream\n")
+    if place != 0 {
+        return byte(out, behind, b'\n');
     }
+    puts::put(
+        out,
+        behind,
+        b" (every fault before the body has position 0)\n",
+    )
 }
 
 // A refusal without the message's number and place; `message` is what is there of the message.
@@ -204,16 +198,14 @@ pub(crate) fn refused(
 ) -> usize {
     let fault = refusal.fault;
     let place = refusal.place;
-    let code = meaning::number(fault);
-    let titled = number(out, at, b"REFUSED\n    refusal ", code as u64);
-    let comma = lines::put(out, titled, b", ");
-    let named = words::refusal(out, comma, code);
-    let end = lines::put(out, named, b"\n");
-    let placed = position(out, end, place.0, first);
+    let code = meaning::number(fault) as u64;
+    let numbers = [code, words::REFUSALS + code];
+    let named = fill(out, at, b"REFUSED\n    refusal #, @\n", &numbers);
+    let placed = position(out, named, place.0 as u64, first);
     dump::place(out, placed, message, first, place.0)
 }
 
-// A message of which `there` bytes are there, and the stream ends.
+// A message of which `there` bytes are there, and the stream ends; its size is 16 while that is not stated.
 pub(crate) fn cut(
     out: &mut [u8],
     at: usize,
@@ -223,19 +215,13 @@ pub(crate) fn cut(
     size: u64,
 ) -> usize {
     let opened = head(out, at, count, first);
-    let line = lines::put(out, opened, b"CUT OFF\n    the stream ends after ");
-    if there < 16 {
-        return counted(
-            out,
-            line,
-            there,
-            b" byte",
-            b" of the 16 that every message has at least\n",
-        );
-    }
-    let some = counted(out, line, there, b" byte", b" of the ");
-    let all = lines::put_number(out, some, size);
-    lines::put(out, all, b" that its first 16 bytes state\n")
+    let numbers = [there, size, words::of_cut(there)];
+    fill(
+        out,
+        opened,
+        b"CUT OFF\n    the stream ends after # byte% of the # @\n",
+        &numbers,
+    )
 }
 
 // A message that the buffer of `room` bytes does not hold.
@@ -248,54 +234,42 @@ pub(crate) fn too_large(
     room: u64,
 ) -> usize {
     let opened = head(out, at, count, first);
-    let line = lines::put(
+    let numbers = [size, room];
+    fill(
         out,
         opened,
-        b"TOO LARGE FOR THIS PROGRAM\n    its first 16 bytes state ",
-    );
-    let states = counted(
-        out,
-        line,
-        size,
-        b" byte",
-        b", and this program holds messages of up to ",
-    );
-    counted(out, states, room, b" byte", b"\n")
+        b"TOO LARGE FOR THIS PROGRAM\n    its first 16 bytes state # byte%, and this program holds messages of up to # byte%\n",
+        &numbers,
+    )
 }
 
-// The last line opens with what was accepted.
-fn sum(out: &mut [u8], at: usize, count: u64, size: u64) -> usize {
-    let messages = counted(out, at, count, b" message", b" in ");
-    counted(out, messages, size, b" byte", b"; ")
+// The stream ends where its last message ends.
+fn all(out: &mut [u8], at: usize, count: u64, first: u64) -> usize {
+    let numbers = [count, first, words::of_end(count)];
+    fill(out, at, b"# message% in # byte%; @\n", &numbers)
 }
 
-// The stream ends, `rest` bytes into a message.
+// The last line, which opens with what was accepted: the stream ends, `rest` bytes into a message.
 pub(crate) fn ended(out: &mut [u8], at: usize, count: u64, first: u64, rest: u64) -> usize {
-    let behind = sum(out, at, count, first);
-    if rest != 0 {
-        let inside = lines::put(out, behind, b"the stream ENDS INSIDE A MESSAGE, ");
-        return counted(out, inside, rest, b" byte", b" into it\n");
+    if rest == 0 {
+        return all(out, at, count, first);
     }
-    if count == 0 {
-        return lines::put(out, behind, b"the stream is empty\n");
-    }
-    lines::put(out, behind, b"the stream ends where the last one ends\n")
+    let numbers = [count, first, rest];
+    fill(
+        out,
+        at,
+        b"# message% in # byte%; the stream ENDS INSIDE A MESSAGE, # byte% into it\n",
+        &numbers,
+    )
 }
 
 // The program stops at the byte `first`, with `left` bytes of the stream from there on.
 pub(crate) fn stopped(out: &mut [u8], at: usize, count: u64, first: u64, left: u64) -> usize {
-    let behind = sum(out, at, count, first);
-    let place = number(out, behind, b"STOPPED at byte ", first);
-    let why = lines::put(
+    let numbers = [count, first, first, left];
+    fill(
         out,
-        place,
-        b", as nothing vouches for where the next message begins: ",
-    );
-    counted(
-        out,
-        why,
-        left,
-        b" byte",
-        b" from there on not taken apart\n",
+        at,
+        b"# message% in # byte%; STOPPED at byte #, as nothing vouches for where the next message begins: # byte% from there on not taken apart\n",
+        &numbers,
     )
 }

@@ -2,39 +2,8 @@
 use meaning::MessageType;
 use meaning::Order;
 
-pub(crate) fn kind(out: &mut [u8], at: usize, kind: MessageType) -> usize {
-    match kind {
-        MessageType::Call => lines::put(out, at, b"method call"),
-        MessageType::Reply => lines::put(out, at, b"method return"),
-        MessageType::Error => lines::put(out, at, b"error"),
-        MessageType::Signal => lines::put(out, at, b"signal"),
-    }
-}
-
-pub(crate) fn order(out: &mut [u8], at: usize, order: Order) -> usize {
-    match order {
-        Order::Little => lines::put(out, at, b"little-endian"),
-        Order::Big => lines::put(out, at, b"big-endian"),
-    }
-}
-
-// The name of a header field, by its code.
-pub(crate) fn field(out: &mut [u8], at: usize, code: usize) -> usize {
-    match code {
-        1 => lines::put(out, at, b"    path          "),
-        2 => lines::put(out, at, b"    interface     "),
-        3 => lines::put(out, at, b"    member        "),
-        4 => lines::put(out, at, b"    error name    "),
-        5 => lines::put(out, at, b"    reply serial  "),
-        6 => lines::put(out, at, b"    destination   "),
-        7 => lines::put(out, at, b"    sender        "),
-        8 => lines::put(out, at, b"    signature     "),
-        _ => lines::put(out, at, b"    unix fds      "),
-    }
-}
-
 // The line of a text that has so many lines before it, without its line end; nothing where the text has no such line.
-fn line(text: &[u8], before: u8) -> &[u8] {
+fn line(text: &[u8], before: u64) -> &[u8] {
     let mut start = 0;
     let mut end = bytes::scan::find(text, 0, text.len(), b'\n');
     let mut left = before;
@@ -49,9 +18,56 @@ fn line(text: &[u8], before: u8) -> &[u8] {
     &text[start..end]
 }
 
-// A refusal's name in document 01 and what it means, by its number: a line for each, from 1 to 26.
-pub(crate) fn refusal(out: &mut [u8], at: usize, number: u8) -> usize {
-    let table = b"(not a refusal)
+// The line of the table with the refusal 0; those from 1 to 26 follow.
+pub(crate) const REFUSALS: u64 = 10;
+
+// The lines of the table for a message's kind, its byte order, how a message can be cut off and how a stream can end.
+pub(crate) fn of_kind(kind: MessageType) -> u64 {
+    match kind {
+        MessageType::Call => 0,
+        MessageType::Reply => 1,
+        MessageType::Error => 2,
+        MessageType::Signal => 3,
+    }
+}
+
+pub(crate) fn of_order(order: Order) -> u64 {
+    match order {
+        Order::Little => 4,
+        Order::Big => 5,
+    }
+}
+
+// By how many bytes of the message are there.
+pub(crate) fn of_cut(there: u64) -> u64 {
+    if there < 16 { 6 } else { 7 }
+}
+
+// By how many messages there were.
+pub(crate) fn of_end(count: u64) -> u64 {
+    if count == 0 { 8 } else { 9 }
+}
+
+// The name of a header field, by its code.
+pub(crate) fn field(out: &mut [u8], at: usize, code: u64) -> usize {
+    let table =
+        b"\npath          \ninterface     \nmember        \nerror name    \nreply serial  \ndestination   \nsender        \nsignature     \nunix fds      \n";
+    puts::put(out, at, line(table, code))
+}
+
+// A line of the table: words, and then the refusals by their numbers, a refusal's name in document 01 and what it means.
+pub(crate) fn word(out: &mut [u8], at: usize, n: u64) -> usize {
+    let table = b"method call
+method return
+error
+signal
+little-endian
+big-endian
+that every message has at least
+that its first 16 bytes state
+the stream is empty
+the stream ends where the last one ends
+(not a refusal)
 BadOffset: the offset or the writing place lies behind the end of the bytes
 NotEnoughBytes: a value, a field or a padding runs past its end, or an array's length is not a whole number of elements
 NotEnoughBytesForCollection: the contents of an array or a dict run past the end of the bytes that they stand in
@@ -79,5 +95,5 @@ BadAlignment: the alignment asked for is not 1, 2, 4 or 8
 TextTooLong: a string to write has more than 4,294,967,295 bytes
 BadArgument: the signature asked about is not exactly one type, or not one that this call takes
 ";
-    lines::put(out, at, line(table, number))
+    puts::put(out, at, line(table, n))
 }

@@ -1,4 +1,4 @@
--- What one turn of a loop over a word or over bytes does, by the definitions.
+-- What one turn of a loop over a word does, by the definitions.
 use Prim.Native.Nat.{ℕ, zero, suc, _+_, _-_, _*_, _/_, _%_, _^_, _≤_, _<_}
 use native.Mathlib.Omega.{arith}
 use native.Mathlib.Numerals.{add-one}
@@ -10,14 +10,12 @@ use lib.Dec.{leb, ltb, eqb}
 use lib.ListN.{length, take, drop, getD, set, length-drop, drop-of-length-le}
 use lib.Seq.{sets, drop-cons, take-all, take-length, length-sets, length-take-le}
 use borrow.Author.Tests.{ltb-true, leb-true, le-ltb, lt-ltb, le-leb, lt-leb}
-use Rattle.io.specs.Digits.{glyph}
-use Rattle.lines.specs.Digits.{digitOf, allDigits, valueFrom, pairs, hexText, bytesText}
+use Rattle.lines.specs.Digits.{digitOf, allDigits, valueFrom, pairs}
 use Rattle.io.specs.Counts.{Counts}
 use Rattle.lines.specs.declared.Taken.{Taken}
 use Rattle.lines.specs.declared.Taken.the-variants.{Bytes}
 use Rattle.bytes.specs.Bytes.{indexOf, slice}
 use Rattle.lines.specs.Words.{occurrences, Took, unless, takenOf}
-use Rattle.lines.specs.Puts.{putText}
 use Rattle.lines.specs.declared.Number.{Number}
 use Rattle.lines.specs.declared.Number.the-variants.{Is, Bad}
 
@@ -51,19 +49,6 @@ pairs-turn l e s i h p =
     next s (2 * i) (omega arith) ∙ ap (λ (t : List ℕ). getD s (2 * i) 0 ∷ t) (next s (2 * i + 1) h) in
     rw (q, add-one i) (rw d at p)
 
-pub text-turn : (l e s : List ℕ) (at i : ℕ) → i < length s → sets l (at + 2 * i) (hexText (drop i s)) ≡ e
-    → sets (set (set l (at + 2 * i) (glyph (getD s i 0 / 16))) (at + 2 * i + 1) (glyph (getD s i 0 % 16))) (at + 2 * (i + 1)) (hexText (drop (i + 1) s)) ≡ e
-unfolding hexText
-text-turn l e s at i h p =
-    let q : at + 2 * (i + 1) ≡ suc (suc (at + 2 * i)) = omega arith in
-    let r : at + 2 * i + 1 ≡ suc (at + 2 * i) = omega arith in
-    rw (q, r) (rw (next s i h) at p)
-
-pub copy-turn : (l e s : List ℕ) (at i : ℕ) → i < length s → sets l (at + i) (drop i s) ≡ e → sets (set l (at + i) (getD s i 0)) (at + (i + 1)) (drop (i + 1) s) ≡ e
-copy-turn l e s at i h p =
-    let q : at + (i + 1) ≡ suc (at + i) = omega arith in
-    rw q (rw (next s i h) at p)
-
 both : (a b : Bool) → (a && b) ≡ true → (a ≡ true) × (b ≡ true)
 both true b p = (refl, p)
 both false b p = let z : _≡_ {A = ℕ} 0 1 = cc in absurd (omega arith)
@@ -94,28 +79,6 @@ from-on s n = take-all (length s - n) (drop n s) (simp length-drop (omega arith)
 
 pub nothing-left : (s : List ℕ) (m n : ℕ) → length s ≤ m → length s ≤ n → drop m s ≡ drop n s
 nothing-left s m n g h = rw (drop-of-length-le s {i = m} g, drop-of-length-le s {i = n} h)
-
--- a text that there is room for, and one that there is none for
-pub fitting : (out xs e : List ℕ) (at n : ℕ) → at + length xs ≤ length out → n ≡ at + length xs → e ≡ sets out at xs → (n ≡ putText out at xs .place) × (e ≡ putText out at xs .after)
-unfolding putText
-fitting out xs e at n h p q = rw (le-leb _ _ h, putText) (p, q)
-
-pub left-out : (out xs : List ℕ) (at : ℕ) → length out < at + length xs → (at ≡ putText out at xs .place) × (out ≡ putText out at xs .after)
-unfolding putText
-left-out out xs at h = rw (lt-leb _ _ h, putText) (refl, refl)
-
-pub length-hex : (s : List ℕ) → length (hexText s) ≡ 2 * length s
-unfolding hexText
-length-hex [] = refl
-length-hex (b ∷ bs) = omega (arith, length-hex bs)
-
-pub some-text : (s : List ℕ) → (length s ≡ 0 → ⊥) → bytesText s ≡ hexText s
-some-text [] h = absurd (h refl)
-some-text (b ∷ bs) h = refl
-
-pub no-text : (s : List ℕ) → length s ≡ 0 → bytesText s ≡ 45 ∷ []
-no-text [] h = refl
-no-text (b ∷ bs) h = absurd (omega arith)
 
 -- the bytes that a word gives lie in the buffer, by the tests of `takenOf`
 module _ (n : ℕ) (xs out : List ℕ) where

@@ -1,9 +1,8 @@
 -- Digits, and what a run of them spells: a decimal number, or bytes in hexadecimal.
-use Prim.Native.Nat.{ℕ, zero, suc, _+_, _-_, _*_, _/_, _%_}
+use Prim.Native.Nat.{ℕ, _+_, _-_, _*_}
 use mathlib.Core.Bool.{Bool, true, _&&_, cond}
-use mathlib.Core.List.{List, [], _∷_, _++_}
+use mathlib.Core.List.{List, [], _∷_}
 use lib.Dec.{leb, ltb}
-use Rattle.io.specs.Digits.{glyph}
 
 -- what the digit stands for, `0` to `9` and `a` to `f`; 16 for any other byte
 abbrev pub digitOf : ℕ → ℕ
@@ -23,22 +22,3 @@ unfoldable pub pairs : List ℕ → List ℕ
 pairs [] = []
 pairs (a ∷ []) = []
 pairs (a ∷ b ∷ cs) = (digitOf a * 16 + digitOf b) ∷ pairs cs
-
--- two digits for each byte
-unfoldable pub hexText : List ℕ → List ℕ
-hexText [] = []
-hexText (b ∷ bs) = glyph (b / 16) ∷ glyph (b % 16) ∷ hexText bs
-
--- the same, and `-` for no bytes
-abbrev pub bytesText : List ℕ → List ℕ
-bytesText [] = 45 ∷ []
-bytesText (b ∷ bs) = hexText (b ∷ bs)
-
--- a number's decimal digits, the fewest that hold it, if there are no more than the first argument says
-unfoldable pub decimalWithin : ℕ → ℕ → List ℕ
-decimalWithin zero n = []
-decimalWithin (suc k) n = cond (ltb n 10) (glyph n ∷ []) (decimalWithin k (n / 10) ++ (glyph (n % 10) ∷ []))
-
--- no number has more digits than one more than itself
-unfoldable pub decimal : ℕ → List ℕ
-decimal n = decimalWithin (suc n) n

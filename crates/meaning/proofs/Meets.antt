@@ -51,9 +51,6 @@ at-none b off = record { end = omega arith; is = refl }
 pub at-read : (b : List ℕ) (off : ℕ) (xs : List ℕ) (e : ℕ) → At b off xs e → take (length xs) (drop off b) ≡ xs
 at-read b off xs e h = rw (h .is) (take-append-seam xs (drop e b))
 
-pub at-le : (b : List ℕ) (off : ℕ) (xs : List ℕ) (e : ℕ) → At b off xs e → e ≤ length b → off + length xs ≤ length b
-at-le b off xs e h l = omega (arith, h .end)
-
 pub record Meets {A : Type 0} (r : R A) (f : A → Layout) (k : A → Cond) : Type 0 where
   pub sound : (b : List ℕ) → Bytes b → (off : ℕ) (v : A) (e : ℕ) → off ≤ length b → r b off ≡ got v e → k v off × At b off (f v off) e
   pub complete : (b : List ℕ) (off : ℕ) (v : A) (e : ℕ) → k v off → At b off (f v off) e → e ≤ length b → r b off ≡ got v e

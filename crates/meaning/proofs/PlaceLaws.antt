@@ -10,8 +10,8 @@ use lib.Seq.{drop-cons, drop-drop, take-length}
 use lib.Dec.{T}
 use Rattle.meaning.specs.Types.{Base, inArray, loose, Ty, base, arr, dict, struct, variant, Tys, one, more}
 use Rattle.meaning.specs.Signature.{code, isKey, notLoose, spell, spells, spellAll, shape, shapes, nest, legal, allLegal, Tok, isBase, isArr, isVar, isOpen, isClose, isCurl, isUncurl, isBad, toks, find, parse, types}
-use Rattle.meaning.specs.Places.{Spelled, TypeAt, Typed, shapeAll, listOf, FieldsAt, FieldsTyped, EntryAt, EntryTyped}
-use Rattle.meaning.proofs.Meets.{At, at-split, at-join, at-read}
+use Rattle.meaning.specs.Places.{Spelled, TypeAt, Typed, shapeAll, listOf, FieldsAt, EntryAt, EntryTyped}
+use Rattle.meaning.proofs.Meets.{At, at-split, at-read}
 use Rattle.meaning.proofs.SignatureLaws.{find-base, parse-sound}
 use Rattle.meaning.proofs.Booleans.{and-left, and-right, and-both}
 
@@ -34,9 +34,6 @@ pub spelled-split : (xs : List ℕ) {ys s : List ℕ} {p e : ℕ} → Spelled (x
 spelled-split xs {ys} {s} {p} {e} h =
     let a = at-split s p xs ys e (spelled-at h) in
     record { middle = p + length xs; left = at-spelled (a .0) (omega (arith, h .within, a .1 .end)); right = at-spelled (a .1) (h .within) }
-
-pub spelled-join : {xs ys s : List ℕ} {p m e : ℕ} → Spelled xs s p m → Spelled ys s m e → Spelled (xs ++ ys) s p e
-spelled-join {xs} {ys} {s} {p} {m} {e} h k = at-spelled (at-join s p xs m ys e (spelled-at h) (spelled-at k)) (k .within)
 
 pub record Head (x : ℕ) (xs s : List ℕ) (p e : ℕ) : Type 0 where
   pub inside : p < length s
@@ -293,15 +290,9 @@ pub listOf-some : (fs : Tys) → listOf fs ≡ [] → ⊥
 listOf-some (one u) q = let z : _≡_ {A = ℕ} 0 1 = cc in omega arith
 listOf-some (more u fs) q = let z : _≡_ {A = ℕ} 0 1 = cc in omega arith
 
-pub some-field : (fs : Tys) {s : List ℕ} {p e : ℕ} → FieldsAt (listOf fs) s p e → getD s p 0 ≡ 41 → ⊥
-some-field fs h q = listOf-some fs (is-none h q .is)
-
 -- A walk from a place at which some type stands to the next such place
 pub start : {s : List ℕ} {p : ℕ} → Typed s p → p < length s
 start h = lies (h .stands) .start
-
-pub start-fields : {s : List ℕ} {p : ℕ} → FieldsTyped s p → p < length s
-start-fields h = lies-fields (h .stands) .start
 
 pub start-entry : {s : List ℕ} {p : ℕ} → EntryTyped s p → (p < length s) × (p + 1 < length s)
 start-entry h = let l = lies-entry (h .stands) in (l .start, l .second)
@@ -315,22 +306,8 @@ go-dict h q b = let v = is-dict (h .stands) q b in record { key = v .key; ty = v
 pub go-loose : {s : List ℕ} {p : ℕ} → Typed s p → getD s p 0 ≡ 123 → EntryTyped s (p + 1)
 go-loose h q = let v = is-loose (h .stands) q in record { key = v .key; ty = v .value; next = h .next; stands = v .stands }
 
-pub go-struct : {s : List ℕ} {p : ℕ} → Typed s p → getD s p 0 ≡ 40 → FieldsTyped s (p + 1)
-go-struct h q = let v = is-struct (h .stands) q in record { tys = listOf (v .fields); next = h .next; stands = v .stands }
-
 pub go-value : {s : List ℕ} {p : ℕ} → EntryTyped s p → Typed s (p + 1)
 go-value h = let v = in-entry (h .stands) in record { ty = h .ty; next = v .middle; stands = v .stands }
-
-pub go-first : {s : List ℕ} {p : ℕ} → FieldsTyped s p → (getD s p 0 ≡ 41 → ⊥) → Typed s p
-go-first h n = let v = is-more (h .stands) n in record { ty = v .first; next = v .middle; stands = v .here }
-
--- r is where the first field's type ends
-pub go-rest : {s : List ℕ} {p r : ℕ} → FieldsTyped s p → (getD s p 0 ≡ 41 → ⊥) → ((t : Ty) (e : ℕ) → TypeAt t s p e → r ≡ e) → (p < r) × FieldsTyped s r
-go-rest {s} {p} {r} h n f =
-    let v = is-more (h .stands) n in
-    let l = lies (v .here) in
-    let q : r ≡ v .middle = f (v .first) (v .middle) (v .here) in
-    (omega arith, rw q (record { tys = v .others; next = h .next; stands = v .rest }))
 
 -- A signature that is read as one type holds that type, whole
 pub whole-type : {s : List ℕ} {t : Ty} → parse s ≡ types (t ∷ []) → TypeAt t s 0 (length s)

@@ -33,9 +33,6 @@ enc4 : (x : ℕ) → 0x10000 ≤ x → encode x ≡ (0xf0 + x / 262144) ∷ (0x8
 unfolding encode
 enc4 x h = rw (above x 0x80 (omega arith), above x 0x800 (omega arith), above x 0x10000 h)
 
-cell1 : (a b : ℕ) → a ≡ b → _≡_ {A = List ℕ} (a ∷ []) (b ∷ [])
-cell1 a b p = cc
-
 cell2 : (a b c d : ℕ) → a ≡ c → b ≡ d → _≡_ {A = List ℕ} (a ∷ b ∷ []) (c ∷ d ∷ [])
 cell2 a b c d p q = cc
 

@@ -39,11 +39,6 @@ pub record FieldsAt (ts : List Ty) (s : List ℕ) (p e : ℕ) : Type 0 where
   pub spelled : Spelled (spellAll ts ++ 41 ∷ []) s p e
   pub shaped : T (shapeAll ts)
 
-pub record FieldsTyped (s : List ℕ) (p : ℕ) : Type 0 where
-  pub tys : List Ty
-  pub next : ℕ
-  pub stands : FieldsAt tys s p next
-
 -- a dict's key and the type of its values stand from p on, with the bracket that ends them, and e is the place after that
 pub record EntryAt (k : Base) (t : Ty) (s : List ℕ) (p e : ℕ) : Type 0 where
   pub spelled : Spelled (code k ∷ spell t ++ 125 ∷ []) s p e

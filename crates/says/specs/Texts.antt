@@ -9,7 +9,7 @@ use Rattle.meaning.specs.declared.Counted.{Counted}
 use Rattle.meaning.specs.declared.Counted.the-variants.{Types, Refused as Uncounted}
 use Rattle.meaning.specs.declared.Written.{Written}
 use Rattle.meaning.specs.declared.Written.the-variants.{Done, Refused as Unwritten}
-use Rattle.lines.specs.Digits.{bytesText, decimal}
+use Rattle.puts.specs.Digits.{bytesText, decimal}
 
 -- bad
 abbrev pub badTexts : List (List ℕ)

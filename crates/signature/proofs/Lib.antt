@@ -4,5 +4,4 @@ pub mod Nesting
 pub mod MarkLaws
 pub mod RunLaws
 pub mod EndLaws
-pub mod Answers
 pub mod OneAnswer

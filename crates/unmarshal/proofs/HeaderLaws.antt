@@ -132,9 +132,6 @@ module _ (b : List ℕ) where
     order-is : start .order ≡ g .head .0 .order
     order-is = ap (λ (s : Start). s .order) (g .starts)
 
-    kind-is : start .kind ≡ g .head .0 .kind
-    kind-is = ap (λ (s : Start). s .kind) (g .starts)
-
     pub table-short : (y : Refusal) → length b < 16 → y ≡ refusal NotEnoughBytes 0 → Refused y ≡ readHeader b
     table-short y l e = short-of (g .head) (g .begins) y l e
 

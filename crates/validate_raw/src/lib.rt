@@ -19,7 +19,10 @@ pub fn validate_marshalled(order: Order, offset: Place, buf: &[u8], sig: &[u8]) 
             if n == 1 {
                 if off <= buf.len() {
                     match walk::value(order, sig, 0, buf, buf.len(), off, 16) {
-                        Walked::Past(_, end) => Checked::Accepted(Length(end - off)),
+                        Walked::Past(_, end) => {
+                            let length = end - off;
+                            Checked::Accepted(Length(length))
+                        }
                         Walked::Refused(refusal) => Checked::Refused(refusal),
                     }
                 } else {

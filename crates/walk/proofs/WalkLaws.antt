@@ -100,14 +100,6 @@ module _ {A : Type 0} (o : Order) (a : ℕ) (r : R A) (b : List ℕ) (off : ℕ)
     ragged-read w e z =
         sym (ap (walkedOf e) (array-inside o a b off w r f s h ∙ elements-ragged (s - f) w r (take s b) f z))
 
-    -- no contents, no elements
-    pub none-read : (w e : ℕ) → f ≡ s → Past e s ≡ walkedOf e (arrayR o a w r b off)
-    none-read w e z =
-        let i = inside-inv o a b off f s h in
-        let n : s - f ≡ 0 = omega arith in
-        let l : length (take s b) ≡ s = length-take-le s b (i .within) in
-        elements-read w e (Past e s) (rw n (zero-mod w)) (sym (ap (walkedOf e) (many-end (s - f) r (take s b) f (omega arith)) ∙ ap (λ (x : ℕ). Past e x) z))
-
 -- arrays that are only tested for a whole number of elements
 module _ (o : Order) (c : Fix) (every : (x : ℕ) → T (valid c x)) (b : List ℕ) (off f s : ℕ) (h : openedOf (length b) (headR o (size c) b off) ≡ Inside f s) where
   aligned : f % size c ≡ 0

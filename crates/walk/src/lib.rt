@@ -201,9 +201,9 @@ fn composites(
     let mut next = at;
     while o < stop {
         match value(order, sig, at, buf, stop, o, levels) {
-            Walked::Past(n, p) => {
+            Walked::Past(n, past) => {
                 next = n;
-                o = p;
+                o = past;
             }
             Walked::Refused(refusal) => {
                 return Walked::Refused(refusal);

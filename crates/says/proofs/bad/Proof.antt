@@ -1,5 +1,5 @@
 -- One word.
-use Rattle.lines.proofs.PutLaws.{alone}
+use Rattle.puts.proofs.PutLaws.{alone}
 use borrow.Author.Needs.{needs}
 use Rattle.says.proofs.bad.Statement.{statement}
 use Rattle.says.proofs.bad.Tie as tie

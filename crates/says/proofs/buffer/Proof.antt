@@ -1,5 +1,5 @@
 -- A space, then the bytes.
-use Rattle.lines.proofs.PutLaws.{alone, then}
+use Rattle.puts.proofs.PutLaws.{alone, then}
 use borrow.Author.Needs.{needs}
 use Rattle.says.proofs.buffer.Statement.{statement}
 use Rattle.says.proofs.buffer.Tie as tie

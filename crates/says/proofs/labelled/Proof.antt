@@ -1,5 +1,5 @@
 -- A word, and behind it the number.
-use Rattle.lines.proofs.PutLaws.{alone, then}
+use Rattle.puts.proofs.PutLaws.{alone, then}
 use borrow.Author.Needs.{needs}
 use Rattle.says.proofs.labelled.Statement.{statement}
 use Rattle.says.proofs.labelled.Tie as tie

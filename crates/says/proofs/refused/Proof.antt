@@ -1,5 +1,5 @@
 -- The position, then the number of the fault.
-use Rattle.lines.proofs.PutLaws.{then}
+use Rattle.puts.proofs.PutLaws.{then}
 use borrow.Author.Needs.{needs}
 use Rattle.says.proofs.refused.Statement.{statement}
 use Rattle.says.proofs.refused.Tie as tie

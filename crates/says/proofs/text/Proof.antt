@@ -1,5 +1,5 @@
 -- A word, then the bytes.
-use Rattle.lines.proofs.PutLaws.{alone, then}
+use Rattle.puts.proofs.PutLaws.{alone, then}
 use borrow.Author.Needs.{needs}
 use Rattle.says.proofs.text.Statement.{statement}
 use Rattle.says.proofs.text.Tie as tie

@@ -1,5 +1,5 @@
 -- The answer of the write, then the buffer.
-use Rattle.lines.proofs.PutLaws.{then}
+use Rattle.puts.proofs.PutLaws.{then}
 use borrow.Author.Needs.{needs}
 use Rattle.says.proofs.written.Statement.{statement}
 use Rattle.says.proofs.written.Tie as tie

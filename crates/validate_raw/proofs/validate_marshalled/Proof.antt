@@ -18,13 +18,15 @@ enum-known-n : tie.Need-enum-known-n
 enum-known-n c = search needs
 
 value-requires : tie.Need-value-requires
-value-requires c κs = (one-type (single _ _ (sym (c .before .before .before .n .given .1) ∙ c .before .before .before .before .before .parse-description .ensures) (c .before .if1 .taken)), record { inside = c .if2 .taken; held = omega arith })
+value-requires c κs = (one-type (single _ _ (sym (c .before .before .before .n .given .1) ∙ c .before .before .before .before .before .parse-description .ensures) (c .before .if1 .taken)), record { inside = omega arith; held = omega arith })
 
 enum-known-end : tie.Need-enum-known-end
 enum-known-end c = search needs
 
-sub-t19 : tie.Need-sub-t19
-sub-t19 c = value-past _ _ (c .before .before .before .before .before .before .before .before .before .before .before .before .args .buf .now) _ (single _ _ (sym (c .before .before .before .before .before .before .before .n .given .1) ∙ c .before .before .before .before .before .before .before .before .before .parse-description .ensures) (c .before .before .before .before .before .if1 .taken)) (c .before .before .before .before .if2 .taken) _ (c .before .before .before .value .ensures) _ _ (c .before .end .given .1) .0
+sub-length : tie.Need-sub-length
+sub-length c =
+    let r = value-past _ _ (c .before .before .before .before .before .before .before .before .before .before .before .before .args .buf .now) _ (single _ _ (sym (c .before .before .before .before .before .before .before .n .given .1) ∙ c .before .before .before .before .before .before .before .before .before .parse-description .ensures) (c .before .before .before .before .before .if1 .taken)) (c .before .before .before .before .if2 .taken) _ (c .before .before .before .value .ensures) _ _ (c .before .end .given .1) .0 in
+    omega arith
 
 enum-known-refusal : tie.Need-enum-known-refusal
 enum-known-refusal c = search needs
@@ -64,7 +66,7 @@ validate-marshalled-spec =
     enum-known-n
     value-requires
     enum-known-end
-    sub-t19
+    sub-length
     enum-known-refusal
     refuse-requires
     refuse-requires-2

@@ -1,12 +1,12 @@
 -- The line begins where the one before ended, and ends within the text.
-use Prim.Native.Nat.{_≤_, _<_}
+use Prim.Native.Nat.{_≤_}
 use lib.ListN.{length}
 use borrow.Author.Needs.{needs}
 use Rattle.inspect.proofs.words.line.Statement.{statement}
 use Rattle.inspect.proofs.words.line.Tie as tie
 
 abbrev Inv-loop : tie.InvT-loop
-Inv-loop text before start₀ end₀ left₀ start end left = (start ≤ end) × (end ≤ length text) × (left < 256)
+Inv-loop text before start₀ end₀ left₀ start end left = (start ≤ end) × (end ≤ length text)
 
 abbrev μ-loop : tie.MeasureT-loop
 μ-loop text before start₀ end₀ left₀ start end left = left
