@@ -254,22 +254,65 @@ fn write_bytes(name: u64, ask: Ask, s: &[u8], buf: &mut [u8]) -> Written {
     }
 }
 
-fn of_two(name: u64, ask: Ask, s: &[u8], buf: &mut [u8], out: &mut [u8], at: usize) -> usize {
+fn say_value(ask: Ask, s: &[u8], buf: &[u8], out: &mut [u8], at: usize) -> usize {
     let order = ask.order;
-    let place = Place(ask.place);
+    let c = validate_raw::validate_marshalled(order, Place(ask.place), buf, s);
+    says::checked(out, at, c)
+}
+
+fn say_fixed(ask: Ask, s: &[u8], buf: &[u8], out: &mut [u8], at: usize) -> usize {
+    let order = ask.order;
+    let r = read::unmarshal_fixed(order, Place(ask.place), buf, s);
+    says_fixed::fixed(out, at, r)
+}
+
+// A code above 255 is no field's, as 0 is none.
+fn code_of(n: usize) -> u8 {
+    if n < 256 { n as u8 } else { 0 }
+}
+
+// The text of a message's field, or the fallback.
+fn say_field<'a>(
+    ask: Ask,
+    message: &'a [u8],
+    fallback: &'a [u8],
+    out: &mut [u8],
+    at: usize,
+) -> usize {
+    let text = lookup::lookup(message, code_of(ask.place), fallback);
+    says::text(out, at, text)
+}
+
+fn of_two(name: u64, ask: Ask, s: &[u8], buf: &mut [u8], out: &mut [u8], at: usize) -> usize {
     if name == VALUE {
-        let c = validate_raw::validate_marshalled(order, place, buf, s);
-        says::checked(out, at, c)
+        say_value(ask, s, buf, out, at)
     } else if name == FIXED {
-        let r = read::unmarshal_fixed(order, place, buf, s);
-        says_fixed::fixed(out, at, r)
+        say_fixed(ask, s, buf, out, at)
+    } else if name == FIELD {
+        say_field(ask, s, buf, out, at)
     } else {
         let w = write_bytes(name, ask, s, buf);
         says::written(out, at, w, buf)
     }
 }
 
-// Questions whose last two words are bytes: a signature or a text, and a buffer.
+// The last word is the bytes of a buffer.
+fn with_text(
+    name: u64,
+    ask: Ask,
+    s: &[u8],
+    word: &[u8],
+    buf: &mut [u8],
+    out: &mut [u8],
+    at: usize,
+) -> usize {
+    let Taken::Bytes(k) = lines::bytes_of(word, buf) else {
+        return says::bad(out, at);
+    };
+    of_two(name, ask, s, &mut buf[..k], out, at)
+}
+
+// Questions whose last two words are bytes: a signature, a text or a message, and a buffer.
 fn two(
     name: u64,
     ask: Ask,
@@ -282,49 +325,7 @@ fn two(
     let Taken::Bytes(n) = lines::bytes_of(lines::head(words), text) else {
         return says::bad(out, at);
     };
-    let Taken::Bytes(k) = lines::bytes_of(lines::tail(words), buf) else {
-        return says::bad(out, at);
-    };
-    of_two(name, ask, &text[..n], &mut buf[..k], out, at)
-}
-
-// A code above 255 is no field's, as 0 is none.
-fn code_of(n: usize) -> u8 {
-    if n < 256 { n as u8 } else { 0 }
-}
-
-// The text of a message's field, or the fallback.
-fn field(
-    code: u8,
-    words: &[u8],
-    text: &mut [u8],
-    buf: &mut [u8],
-    out: &mut [u8],
-    at: usize,
-) -> usize {
-    let Taken::Bytes(n) = lines::bytes_of(lines::head(words), text) else {
-        return says::bad(out, at);
-    };
-    let Taken::Bytes(k) = lines::bytes_of(lines::tail(words), buf) else {
-        return says::bad(out, at);
-    };
-    says::text(out, at, lookup::lookup(&text[..n], code, &buf[..k]))
-}
-
-fn with_bytes(
-    name: u64,
-    ask: Ask,
-    words: &[u8],
-    text: &mut [u8],
-    buf: &mut [u8],
-    out: &mut [u8],
-    at: usize,
-) -> usize {
-    if name == FIELD {
-        field(code_of(ask.place), words, text, buf, out, at)
-    } else {
-        two(name, ask, words, text, buf, out, at)
-    }
+    with_text(name, ask, &text[..n], lines::tail(words), buf, out, at)
 }
 
 fn is_single(name: u64) -> bool {
@@ -347,7 +348,7 @@ fn answer(line: &[u8], text: &mut [u8], buf: &mut [u8], out: &mut [u8], at: usiz
     if is_single(name) {
         one(name, ask, behind(words, gaps), buf, out, at)
     } else {
-        with_bytes(name, ask, behind(line, gaps), text, buf, out, at)
+        two(name, ask, behind(line, gaps), text, buf, out, at)
     }
 }
 

@@ -76,6 +76,26 @@ fn move_down(s: &mut [u8], from: usize, to: usize)
     }
 }
 
+// The bytes from `start` to `n`, of a line that goes on.
+fn keep(input: &mut [u8], start: usize, n: usize) -> Rest
+    requires { ⌜ (start ≤ n) × (n ≤ length (now input)) ⌝ }
+    ensures { λ r. ⌜ r .held ≤ n ⌝ }
+{
+    move_down(input, start, n);
+    Rest {
+        held: n - start,
+        skipping: false,
+        more: true,
+    }
+}
+
+// A line that is too long is answered before it ends.
+fn too_long(out: &mut [u8]) {
+    let at = says::bad(out, 0);
+    let end = puts::put(out, at, b"\n");
+    flush(out, end);
+}
+
 // The input may end in a line without a line end.
 fn last_line(s: &[u8], first: &mut [u8], second: &mut [u8], out: &mut [u8]) {
     if s.len() != 0 {
@@ -91,13 +111,7 @@ fn skip(n: usize, input: &mut [u8]) -> Rest
 {
     let end = bytes::scan::find(input, 0, n, b'\n');
     if end < n {
-        let start = end + 1;
-        move_down(input, start, n);
-        Rest {
-            held: n - start,
-            skipping: false,
-            more: true,
-        }
+        keep(input, end + 1, n)
     } else {
         Rest {
             held: 0,
@@ -122,21 +136,14 @@ fn block(n: usize, input: &mut [u8], first: &mut [u8], second: &mut [u8], out: &
         };
     }
     if start == 0 {
-        let at = says::bad(out, 0);
-        let end = puts::put(out, at, b"\n");
-        flush(out, end);
+        too_long(out);
         return Rest {
             held: 0,
             skipping: true,
             more: true,
         };
     }
-    move_down(input, start, n);
-    Rest {
-        held: n - start,
-        skipping: false,
-        more: true,
-    }
+    keep(input, start, n)
 }
 
 fn turn(last: Rest, input: &mut [u8], first: &mut [u8], second: &mut [u8], out: &mut [u8]) -> Rest

@@ -19,17 +19,11 @@ pub enum Taken {
     Bad,
 }
 
-fn word_end(s: &[u8]) -> usize
-    ensures { λ r. ⌜ (r ≡ wordEnd (now (s .entry))) × (r ≤ length (now (s .entry))) ⌝ }
-{
-    bytes::scan::find(s, 0, s.len(), b' ')
-}
-
 // The first word: up to the first space, or all.
 pub fn head(s: &[u8]) -> &[u8]
     ensures { λ r. ⌜ now r ≡ take (wordEnd (now (s .entry))) (now (s .entry)) ⌝ }
 {
-    let end = word_end(s);
+    let end = bytes::scan::find(s, 0, s.len(), b' ');
     &s[..end]
 }
 
@@ -37,12 +31,12 @@ pub fn head(s: &[u8]) -> &[u8]
 pub fn tail(s: &[u8]) -> &[u8]
     ensures { λ r. ⌜ now r ≡ drop (wordEnd (now (s .entry)) + 1) (now (s .entry)) ⌝ }
 {
-    let end = word_end(s);
-    if end < s.len() {
-        let next = end + 1;
+    let gap = bytes::scan::find(s, 0, s.len(), b' ');
+    if gap < s.len() {
+        let next = gap + 1;
         &s[next..]
     } else {
-        &s[end..]
+        &s[gap..]
     }
 }
 

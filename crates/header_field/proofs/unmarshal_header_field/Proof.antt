@@ -2,6 +2,7 @@
 use mathlib.Core.Path.{sym, _∙_}
 use native.Mathlib.Omega.{arith}
 use lib.Seq.{length-take-le, getD-take}
+use Rattle.basic.proofs.BaseLaws.{padded-within}
 use Rattle.header_field.proofs.FieldLaws.{field-stop, field-short, field-read}
 use borrow.Author.Needs.{needs}
 use Rattle.header_field.proofs.unmarshal_header_field.Statement.{statement}
@@ -27,7 +28,8 @@ add-content : tie.Need-add-content
 add-content c = search needs
 
 content-requires : tie.Need-content-requires
-content-requires c κs = search needs
+content-requires c κs = let r = padded-within _ _ _ _ _ _ (c .before .before .before .before .before .before .before .pre) (c .before .before .before .before .before .padded .ensures) (c .before .before .before .place .given .1) in
+    record { inside = omega (arith, r .0, r .1); held = omega (arith, c .before .before .before .before .before .before .before .pre .held) }
 
 enum-known-refusal : tie.Need-enum-known-refusal
 enum-known-refusal c = search needs
