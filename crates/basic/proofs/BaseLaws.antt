@@ -21,18 +21,11 @@ use Rattle.meaning.specs.ReadValue.{valid, padding, readFix, bareR, baseR}
 use Rattle.meaning.proofs.Local.{bind-got, bind-fault, bytes-yes, bytes-no}
 use Rattle.meaning.proofs.Meets.{here-bind, check-bind}
 use Rattle.meaning.specs.Writers.{isAlignment}
-use Rattle.meaning.proofs.ValueLocal.{padding-local}
-use Rattle.util.specs.Entry.{Window}
-use Rattle.util.proofs.Windows.{reached-within}
 use Rattle.meaning.proofs.PlaceLaws.{same-code}
 use Rattle.meaning.proofs.Loop.{at-inv, refused-inv}
 use Rattle.types.specs.Codes.{alignCode, sizeCode}
 use Rattle.types.proofs.CodeLaws.{align-base, size-fix, size-is-alignment}
 use Rattle.basic.specs.Basic.{AnyBits}
-
--- padding that was read leads to a place within what is seen
-pub padded-within : (a : ℕ) (b : List ℕ) (end off : ℕ) (q : Reached) (p : Place) → Window b end off → q ≡ reachedOf (padding a (take end b) off) → q ≡ At p → (off ≤ p .0) × (p .0 ≤ end)
-padded-within a b end off q p w e h = reached-within (padding a) (padding-local a .bound) b end off p w (sym h ∙ e)
 
 module _ (o : Order) (c : Fix) (b : List ℕ) (end off : ℕ) (ends : length b ≡ end) where
   abbrev tested : ℕ → List ℕ → R ℕ

@@ -22,7 +22,9 @@ use Rattle.meaning.specs.declared.Fault.the-variants.{BadOffset, NotEnoughBytes
 use Rattle.meaning.proofs.Local.{bytes-yes, bytes-no, bind-got, bind-fault, leb-true, leb-false}
 use Rattle.meaning.proofs.Meets.{here-bind}
 use Rattle.util.specs.Entry.{Window, takenFrom}
-use Rattle.util.proofs.Windows.{seen, entry-is}
+use Rattle.meaning.proofs.ValueLocal.{padding-local}
+use Rattle.meaning.specs.declared.Place.{Place}
+use Rattle.util.proofs.Windows.{seen, reached-within, entry-is}
 
 abbrev tested : ℕ → List ℕ → R (Unit {0})
 tested p zs = check (zeros zs) PaddingContainedData (at4 p zs)
@@ -117,3 +119,7 @@ no-alignment a b off h k x e = rw (leb-true off (length b) h, k, checkPadding, e
 pub aligned : (a : ℕ) (b : List ℕ) (off : ℕ) (q : Reached) → off ≤ length b → isAlignment a ≡ true → q ≡ reachedOf (padding a (take (length b) b) off) → takenFrom off q ≡ checkPadding a b off
 unfolding checkPadding
 aligned a b off q h k e = rw (leb-true off (length b) h, k, checkPadding) (entry-is (padding a) b off q h e)
+
+-- padding that was read leads to a place within what is seen
+pub padded-within : (a : ℕ) (b : List ℕ) (end off : ℕ) (q : Reached) (p : Place) → Window b end off → q ≡ reachedOf (padding a (take end b) off) → q ≡ At p → (off ≤ p .0) × (p .0 ≤ end)
+padded-within a b end off q p w e h = reached-within (padding a) (padding-local a .bound) b end off p w (sym h ∙ e)

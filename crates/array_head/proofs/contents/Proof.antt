@@ -3,7 +3,7 @@ use mathlib.Core.Path.{sym, _∙_}
 use native.Mathlib.Omega.{arith}
 use lib.Seq.{length-take-le}
 use Rattle.array_head.proofs.OpenLaws.{lying-over, lying-stop, lying-late, lying-inside}
-use Rattle.basic.proofs.BaseLaws.{padded-within}
+use Rattle.util.proofs.Pads.{padded-within}
 use borrow.Author.Needs.{needs}
 use Rattle.array_head.proofs.contents.Statement.{statement}
 use Rattle.array_head.proofs.contents.Tie as tie

@@ -5,7 +5,7 @@ use lib.Seq.{length-take-le}
 use Rattle.util.proofs.Windows.{seen}
 use Rattle.meaning.specs.Number.{load}
 use Rattle.array_head.proofs.OpenLaws.{head-stop, head-short, head-read}
-use Rattle.basic.proofs.BaseLaws.{padded-within}
+use Rattle.util.proofs.Pads.{padded-within}
 use borrow.Author.Needs.{needs}
 use Rattle.array_head.proofs.opening.Statement.{statement}
 use Rattle.array_head.proofs.opening.Tie as tie

@@ -1,7 +1,7 @@
 -- The padding to its size, and then its bytes.
 use mathlib.Core.Path.{_≡_, sym, _∙_, ap}
 use native.Mathlib.Omega.{arith}
-use Rattle.basic.proofs.BaseLaws.{padded-within}
+use Rattle.util.proofs.Pads.{padded-within}
 use Rattle.basic.proofs.BaseLaws.{number-stop, number-at}
 use borrow.Author.Needs.{needs}
 use Rattle.basic.proofs.number.Statement.{statement}

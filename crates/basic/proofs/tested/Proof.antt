@@ -10,7 +10,7 @@ use Rattle.meaning.specs.Reader.{reachedOf}
 use Rattle.meaning.specs.ReadValue.{padding}
 use Rattle.types.specs.Codes.{alignCode}
 use Rattle.types.proofs.CodeLaws.{align-base, base-is-alignment}
-use Rattle.basic.proofs.BaseLaws.{padded-within}
+use Rattle.util.proofs.Pads.{padded-within}
 use Rattle.basic.proofs.BaseLaws.{base-stop, base-bare, base-padding}
 use borrow.Author.Needs.{needs}
 use Rattle.basic.proofs.tested.Statement.{statement}

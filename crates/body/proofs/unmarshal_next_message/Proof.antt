@@ -1,7 +1,7 @@
 -- Each return is one way through what follows the field table.
 use mathlib.Core.Path.{refl, sym, _∙_}
 use native.Mathlib.Omega.{arith}
-use Rattle.basic.proofs.BaseLaws.{padded-within}
+use Rattle.util.proofs.Pads.{padded-within}
 use Rattle.header_fields.proofs.TableLaws.{bytes-of}
 use Rattle.body.proofs.NextLaws.{held-within, next-stop, sig-ends, sig-within, sig-types, body-over, body-refused, body-read}
 use borrow.Author.Needs.{needs}

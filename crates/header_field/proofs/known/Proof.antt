@@ -6,7 +6,7 @@ use lib.Dec.{T}
 use Rattle.meaning.specs.Writers.{isAlignment}
 use Rattle.types.specs.Codes.{alignCode}
 use Rattle.types.proofs.CodeLaws.{align-base, base-is-alignment}
-use Rattle.basic.proofs.BaseLaws.{padded-within}
+use Rattle.util.proofs.Pads.{padded-within}
 use Rattle.basic.proofs.BaseLaws.{base-padding}
 use Rattle.header_field.proofs.KnownLaws.{only, pad-stop, bare-stop, is-number, is-spelling, is-text}
 use borrow.Author.Needs.{needs}

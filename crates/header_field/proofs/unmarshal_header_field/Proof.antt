@@ -2,7 +2,7 @@
 use mathlib.Core.Path.{sym, _∙_}
 use native.Mathlib.Omega.{arith}
 use lib.Seq.{length-take-le, getD-take}
-use Rattle.basic.proofs.BaseLaws.{padded-within}
+use Rattle.util.proofs.Pads.{padded-within}
 use Rattle.header_field.proofs.FieldLaws.{field-stop, field-short, field-read}
 use borrow.Author.Needs.{needs}
 use Rattle.header_field.proofs.unmarshal_header_field.Statement.{statement}

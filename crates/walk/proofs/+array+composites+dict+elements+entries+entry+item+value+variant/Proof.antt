@@ -20,7 +20,7 @@ use Rattle.util.proofs.Windows.{reached-within}
 use Rattle.meaning.proofs.ValueLocal.{baseR-local}
 use Rattle.walk.specs.Walk.{walkedOf, entryR}
 use Rattle.spelled.proofs.SpellLaws.{inner-at, inner-shut}
-use Rattle.basic.proofs.BaseLaws.{padded-within}
+use Rattle.util.proofs.Pads.{padded-within}
 use Rattle.first_bytes.proofs.ElementLaws.{element-alignment, basic, fourth-composite}
 use Rattle.basic.proofs.LoopLaws.{began}
 use Rattle.walk.proofs.WalkLaws.{base-read, variant-read, dict-read, array-read, variant-deep, variant-shut, variant-holds, elements-basic, past-next, walked-place, walked-refusal}
