@@ -1,4 +1,4 @@
-//! A sample of the crate's answers for the program crates/beside, which replays it without the crate.
+//! A sample of the crate's answers for the program crates/replay_original, which replays it without the crate.
 use model::question::Question;
 use model::tally::Verdict;
 use model::ways::CRATE;

@@ -12,12 +12,16 @@
 // recursion over parsed types; where document 01 lists no difference, it was held to the original crate's answers too.
 mod stream;
 
-use lines::Number;
-use lines::Taken;
+use answer_text::fixed_text;
+use answer_text::header_text;
 use meaning::Length;
 use meaning::Order;
 use meaning::Place;
 use meaning::Written;
+use question_lines::Number;
+use question_lines::Taken;
+use unmarshal::check_message;
+use write::texts;
 
 // The names of the questions and of the byte orders, as `name_of` packs them.
 const SIG: u64 = 0x01_73_69_67;
@@ -117,7 +121,7 @@ fn holds(name: u64, n: u64) -> bool {
 }
 
 fn numbered(order: Order, place: u64, words: &[u8]) -> Asked {
-    match lines::number_of(lines::head(words)) {
+    match question_lines::number_of(question_lines::head(words)) {
         Number::Is(n) => as_asked(order, place, n),
         Number::Bad => Asked::Bad,
     }
@@ -125,11 +129,11 @@ fn numbered(order: Order, place: u64, words: &[u8]) -> Asked {
 
 // The number that comes first is a place or a field's code; the byte order does not matter.
 fn placed(name: u64, words: &[u8]) -> Asked {
-    let Number::Is(n) = lines::number_of(lines::head(words)) else {
+    let Number::Is(n) = question_lines::number_of(question_lines::head(words)) else {
         return Asked::Bad;
     };
     if name == PAD {
-        numbered(Order::Little, n, lines::tail(words))
+        numbered(Order::Little, n, question_lines::tail(words))
     } else if name == WSIG {
         as_asked(Order::Little, n, 0)
     } else if name == FIELD {
@@ -140,13 +144,13 @@ fn placed(name: u64, words: &[u8]) -> Asked {
 }
 
 fn in_order(name: u64, order: Order, words: &[u8]) -> Asked {
-    let Number::Is(place) = lines::number_of(lines::head(words)) else {
+    let Number::Is(place) = question_lines::number_of(question_lines::head(words)) else {
         return Asked::Bad;
     };
     if takes_two(name) {
         return as_asked(order, place, 0);
     }
-    match lines::number_of(lines::head(lines::tail(words))) {
+    match question_lines::number_of(question_lines::head(question_lines::tail(words))) {
         Number::Is(n) => {
             if holds(name, n) {
                 as_asked(order, place, n)
@@ -159,11 +163,11 @@ fn in_order(name: u64, order: Order, words: &[u8]) -> Asked {
 }
 
 fn ordered(name: u64, words: &[u8]) -> Asked {
-    let letter = name_of(lines::head(words));
+    let letter = name_of(question_lines::head(words));
     if letter == LITTLE {
-        in_order(name, Order::Little, lines::tail(words))
+        in_order(name, Order::Little, question_lines::tail(words))
     } else if letter == BIG {
-        in_order(name, Order::Big, lines::tail(words))
+        in_order(name, Order::Big, question_lines::tail(words))
     } else {
         Asked::Bad
     }
@@ -191,15 +195,15 @@ fn behind(line: &[u8], words: usize) -> &[u8] {
     if words == 0 {
         return line;
     }
-    let first = lines::tail(line);
+    let first = question_lines::tail(line);
     if words == 1 {
         return first;
     }
-    let second = lines::tail(first);
+    let second = question_lines::tail(first);
     if words == 2 {
         return second;
     }
-    lines::tail(second)
+    question_lines::tail(second)
 }
 
 // A number is written by its width, which holds it.
@@ -220,26 +224,26 @@ fn write_number(name: u64, ask: Ask, buf: &mut [u8]) -> Written {
 
 fn say_header(buf: &[u8], out: &mut [u8], at: usize) -> usize {
     let read = unmarshal::unmarshal_header(buf);
-    says_header::header(out, at, read)
+    header_text::header(out, at, read)
 }
 
 fn of_one(name: u64, ask: Ask, buf: &mut [u8], out: &mut [u8], at: usize) -> usize {
     if name == SIG {
-        says::counted(out, at, signature::validate_signature(buf))
+        answer_text::counted(out, at, signature::validate_signature(buf))
     } else if name == MESSAGE {
-        says::checked(out, at, check_message::check_message(buf))
+        answer_text::checked(out, at, check_message::check_message(buf))
     } else if name == HEADER {
         say_header(buf, out, at)
     } else {
         let w = write_number(name, ask, buf);
-        says::written(out, at, w, buf)
+        answer_text::written(out, at, w, buf)
     }
 }
 
 // Questions whose last word is their only bytes.
 fn one(name: u64, ask: Ask, word: &[u8], buf: &mut [u8], out: &mut [u8], at: usize) -> usize {
-    let Taken::Bytes(k) = lines::bytes_of(word, buf) else {
-        return says::bad(out, at);
+    let Taken::Bytes(k) = question_lines::bytes_of(word, buf) else {
+        return answer_text::bad(out, at);
     };
     of_one(name, ask, &mut buf[..k], out, at)
 }
@@ -248,22 +252,22 @@ fn write_bytes(name: u64, ask: Ask, s: &[u8], buf: &mut [u8]) -> Written {
     let order = ask.order;
     let place = Place(ask.place);
     if name == WSTR {
-        write_text::write_string(s, order, buf, place)
+        texts::write_string(s, order, buf, place)
     } else {
-        write_text::write_signature(s, buf, place)
+        texts::write_signature(s, buf, place)
     }
 }
 
 fn say_value(ask: Ask, s: &[u8], buf: &[u8], out: &mut [u8], at: usize) -> usize {
     let order = ask.order;
     let c = validate_raw::validate_marshalled(order, Place(ask.place), buf, s);
-    says::checked(out, at, c)
+    answer_text::checked(out, at, c)
 }
 
 fn say_fixed(ask: Ask, s: &[u8], buf: &[u8], out: &mut [u8], at: usize) -> usize {
     let order = ask.order;
     let r = read::unmarshal_fixed(order, Place(ask.place), buf, s);
-    says_fixed::fixed(out, at, r)
+    fixed_text::fixed(out, at, r)
 }
 
 // A code above 255 is no field's, as 0 is none.
@@ -280,7 +284,7 @@ fn say_field<'a>(
     at: usize,
 ) -> usize {
     let text = lookup::lookup(message, code_of(ask.place), fallback);
-    says::text(out, at, text)
+    answer_text::text(out, at, text)
 }
 
 fn of_two(name: u64, ask: Ask, s: &[u8], buf: &mut [u8], out: &mut [u8], at: usize) -> usize {
@@ -292,7 +296,7 @@ fn of_two(name: u64, ask: Ask, s: &[u8], buf: &mut [u8], out: &mut [u8], at: usi
         say_field(ask, s, buf, out, at)
     } else {
         let w = write_bytes(name, ask, s, buf);
-        says::written(out, at, w, buf)
+        answer_text::written(out, at, w, buf)
     }
 }
 
@@ -306,8 +310,8 @@ fn with_text(
     out: &mut [u8],
     at: usize,
 ) -> usize {
-    let Taken::Bytes(k) = lines::bytes_of(word, buf) else {
-        return says::bad(out, at);
+    let Taken::Bytes(k) = question_lines::bytes_of(word, buf) else {
+        return answer_text::bad(out, at);
     };
     of_two(name, ask, s, &mut buf[..k], out, at)
 }
@@ -322,10 +326,18 @@ fn two(
     out: &mut [u8],
     at: usize,
 ) -> usize {
-    let Taken::Bytes(n) = lines::bytes_of(lines::head(words), text) else {
-        return says::bad(out, at);
+    let Taken::Bytes(n) = question_lines::bytes_of(question_lines::head(words), text) else {
+        return answer_text::bad(out, at);
     };
-    with_text(name, ask, &text[..n], lines::tail(words), buf, out, at)
+    with_text(
+        name,
+        ask,
+        &text[..n],
+        question_lines::tail(words),
+        buf,
+        out,
+        at,
+    )
 }
 
 fn is_single(name: u64) -> bool {
@@ -339,11 +351,11 @@ fn is_single(name: u64) -> bool {
 }
 
 fn answer(line: &[u8], text: &mut [u8], buf: &mut [u8], out: &mut [u8], at: usize) -> usize {
-    let name = name_of(lines::head(line));
-    let words = lines::tail(line);
-    let gaps = lines::count(words, b' ');
+    let name = name_of(question_lines::head(line));
+    let words = question_lines::tail(line);
+    let gaps = question_lines::count(words, b' ');
     let Asked::Is(ask) = ask_of(name, words, gaps) else {
-        return says::bad(out, at);
+        return answer_text::bad(out, at);
     };
     if is_single(name) {
         one(name, ask, behind(words, gaps), buf, out, at)

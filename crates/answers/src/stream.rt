@@ -32,7 +32,7 @@ fn answer_line(
         from = 0;
     }
     let behind = answer(line, first, second, out, from);
-    puts::put(out, behind, b"\n")
+    text_out::put(out, behind, b"\n")
 }
 
 // Answers each line that ends among the first `n` bytes, and says where what is left of them begins.
@@ -91,8 +91,8 @@ fn keep(input: &mut [u8], start: usize, n: usize) -> Rest
 
 // A line that is too long is answered before it ends.
 fn too_long(out: &mut [u8]) {
-    let at = says::bad(out, 0);
-    let end = puts::put(out, at, b"\n");
+    let at = answer_text::bad(out, 0);
+    let end = text_out::put(out, at, b"\n");
     flush(out, end);
 }
 

@@ -1,4 +1,6 @@
 // Values of basic types (validate_raw.rs): document 01, port order 4.
+pub mod spelled;
+
 ghost use mathlib.Core.Path.{_≡_};
 ghost use Prim.Native.Nat.{ℕ, _+_, _-_, _≤_, _<_};
 ghost use lib.Dec.{T};
@@ -14,6 +16,8 @@ use meaning::Fault;
 use meaning::Order;
 use meaning::Place;
 use meaning::Reached;
+use text::strings;
+use util::integers;
 
 // A number of `size` bytes of which any bits are a value.
 fn fixed(buf: &[u8], end: usize, off: usize, size: usize) -> Reached

@@ -31,9 +31,9 @@ fn lead(k: usize, mark: usize) -> u8
 fn cell(out: &mut [u8], at: usize, row: &[u8], k: usize) -> usize {
     if k < row.len() {
         let end = k + 1;
-        return puts::put_bytes(out, at, &row[k..end]);
+        return text_out::put_bytes(out, at, &row[k..end]);
     }
-    puts::put(out, at, b"  ")
+    text_out::put(out, at, b"  ")
 }
 
 fn cells(out: &mut [u8], at: usize, row: &[u8], mark: usize) -> usize {
@@ -141,7 +141,7 @@ fn last_of(size: usize, mark: usize) -> usize
 pub(crate) fn place(out: &mut [u8], at: usize, message: &[u8], first: u64, place: usize) -> usize {
     let mark = least(place, message.len());
     let last = last_of(message.len(), mark);
-    let titled = puts::put(out, at, b"   message    stream\n");
+    let titled = text_out::put(out, at, b"   message    stream\n");
     if mark < 48 {
         return rows(out, titled, message, first, 0, last, mark, 12);
     }

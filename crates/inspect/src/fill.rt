@@ -30,7 +30,7 @@ fn takes(mark: u8) -> usize
 
 pub(crate) fn byte(out: &mut [u8], at: usize, b: u8) -> usize {
     let one = [b];
-    puts::put(out, at, &one)
+    text_out::put(out, at, &one)
 }
 
 fn blank(out: &mut [u8], at: usize, there: bool) -> usize {
@@ -48,7 +48,7 @@ fn right(out: &mut [u8], at: usize, n: u64) -> usize {
         behind = blank(out, behind, n < power);
         power = power / 10;
     }
-    puts::put_number(out, behind, n)
+    text_out::put_number(out, behind, n)
 }
 
 // An s, unless there is one.
@@ -62,7 +62,7 @@ fn plural(out: &mut [u8], at: usize, n: u64) -> usize {
 // What a byte of a template stands for, after the number `n`.
 fn piece(out: &mut [u8], at: usize, mark: u8, n: u64) -> usize {
     if mark == b'#' {
-        puts::put_number(out, at, n)
+        text_out::put_number(out, at, n)
     } else if mark == b'>' {
         right(out, at, n)
     } else if mark == b'@' {

@@ -32,8 +32,8 @@ fn safe(out: &mut [u8], at: usize, b: u8) -> usize {
         }
     }
     let one = [b];
-    let behind = puts::put(out, at, b"\\x");
-    puts::put_bytes(out, behind, &one)
+    let behind = text_out::put(out, at, b"\\x");
+    text_out::put_bytes(out, behind, &one)
 }
 
 fn escaped(out: &mut [u8], at: usize, s: &[u8]) -> usize {
@@ -58,13 +58,13 @@ fn text(out: &mut [u8], at: usize, s: &[u8]) -> usize {
 
 // The name of a header field opens its line.
 fn named(out: &mut [u8], at: usize, code: u64) -> usize {
-    let behind = puts::put(out, at, b"    ");
+    let behind = text_out::put(out, at, b"    ");
     words::field(out, behind, code)
 }
 
 fn number_field(out: &mut [u8], at: usize, code: u64, n: u64) -> usize {
     let name = named(out, at, code);
-    let behind = puts::put_number(out, name, n);
+    let behind = text_out::put_number(out, name, n);
     byte(out, behind, b'\n')
 }
 
@@ -147,7 +147,7 @@ fn numbers(out: &mut [u8], at: usize, flags: u8, version: u8) -> usize {
 
 fn body(out: &mut [u8], at: usize, size: u64, place: u64) -> usize {
     if size == 0 {
-        return puts::put(out, at, b"    body          empty\n");
+        return text_out::put(out, at, b"    body          empty\n");
     }
     let numbers = [size, place];
     fill(
@@ -181,7 +181,7 @@ fn position(out: &mut [u8], at: usize, place: u64, first: u64) -> usize {
     if place != 0 {
         return byte(out, behind, b'\n');
     }
-    puts::put(
+    text_out::put(
         out,
         behind,
         b" (every fault before the body has position 0)\n",

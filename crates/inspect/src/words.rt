@@ -52,7 +52,7 @@ pub(crate) fn of_end(count: u64) -> u64 {
 pub(crate) fn field(out: &mut [u8], at: usize, code: u64) -> usize {
     let table =
         b"\npath          \ninterface     \nmember        \nerror name    \nreply serial  \ndestination   \nsender        \nsignature     \nunix fds      \n";
-    puts::put(out, at, line(table, code))
+    text_out::put(out, at, line(table, code))
 }
 
 // A line of the table: words, and then the refusals by their numbers, a refusal's name in document 01 and what it means.
@@ -95,5 +95,5 @@ BadAlignment: the alignment asked for is not 1, 2, 4 or 8
 TextTooLong: a string to write has more than 4,294,967,295 bytes
 BadArgument: the signature asked about is not exactly one type, or not one that this call takes
 ";
-    puts::put(out, at, line(table, n))
+    text_out::put(out, at, line(table, n))
 }

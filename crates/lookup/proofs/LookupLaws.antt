@@ -20,11 +20,11 @@ use Rattle.meaning.specs.Header.{entry, headerOf, headerFrom, readHeader, holds
 use Rattle.meaning.proofs.NumberLaws.{Bytes}
 use Rattle.meaning.proofs.MessageLocal.{readMessage-local}
 use Rattle.meaning.proofs.MessageMeets.{message-sound, message-opens}
-use Rattle.header_fields.specs.Steps.{fieldsFrom}
+use Rattle.header.specs.HeaderFields.{fieldsFrom}
 use Rattle.lookup.specs.Found.{textAt, foundIn}
-use Rattle.body.specs.Steps.{cutOf}
-use Rattle.body.proofs.TextLaws.{Before, before-more, text-is}
-use Rattle.body.proofs.NextLaws.{each-at}
+use Rattle.unmarshal.specs.Body.{cutOf}
+use Rattle.unmarshal.proofs.body.TextLaws.{Before, before-more, text-is}
+use Rattle.unmarshal.proofs.body.NextLaws.{each-at}
 
 -- a code that holds a text, with its entry, or none
 data Chosen (o : Order) (fs : List Field) (c : ℕ) : Bool → Entry → Type 0 where

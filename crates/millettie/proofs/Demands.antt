@@ -10,7 +10,7 @@ use Rattle.meaning.specs.Header.{readHeader, lookup}
 use Rattle.meaning.specs.declared.Entry.{Entry}
 use Rattle.meaning.specs.declared.Entry.the-variants.{Absent, Number, Text}
 use Rattle.meaning.proofs.NumberLaws.{Bytes}
-use Rattle.body.specs.Steps.{cutOf}
+use Rattle.unmarshal.specs.Body.{cutOf}
 use Rattle.lookup.specs.Found.{foundIn}
 use Rattle.lookup.proofs.LookupLaws.{found-is}
 use Rattle.structs.specs.Answers.{partOf}

@@ -16,6 +16,8 @@ use meaning::Place;
 use structs::MtAnswer;
 use structs::MtHeader;
 use structs::MtPart;
+use unmarshal::check_message;
+use write::texts;
 
 #[repr(C)]
 pub struct MtFixed {
@@ -134,7 +136,7 @@ pub extern "C" fn mt_write_string(buf: &mut [u8], place: usize, text: &[u8], big
 {
     structs::of_written(
         place,
-        write_text::write_string(text, structs::order(big), buf, Place(place)),
+        texts::write_string(text, structs::order(big), buf, Place(place)),
     )
 }
 
@@ -143,5 +145,5 @@ pub extern "C" fn mt_write_signature(buf: &mut [u8], place: usize, sig: &[u8]) -
     ensures { λ r. ⌜ ((o : Order) → r ≡ writtenOf place (writeAt (signatureBytes o (now (sig .entry))) (now (buf .entry)) place .answer)) ⌝ }
     ensures { λ r. ⌜ ((o : Order) → now (buf .exit) ≡ writeAt (signatureBytes o (now (sig .entry))) (now (buf .entry)) place .after) ⌝ }
 {
-    structs::of_written(place, write_text::write_signature(sig, buf, Place(place)))
+    structs::of_written(place, texts::write_signature(sig, buf, Place(place)))
 }

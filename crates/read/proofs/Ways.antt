@@ -22,7 +22,7 @@ use Rattle.meaning.specs.declared.FixedRead.{FixedRead}
 use Rattle.meaning.specs.declared.FixedRead.the-variants.{Read, Refused}
 use Rattle.meaning.proofs.Local.{bytes-yes, bytes-no, bind-got, bind-fault, leb-true, leb-false}
 use Rattle.meaning.proofs.Meets.{here-bind}
-use Rattle.integers.specs.Loaded.{Loaded}
+use Rattle.util.specs.Loaded.{Loaded}
 use Rattle.read.proofs.FixedTypes.{named}
 
 -- a fixed value behind its padding, at the width that the table gives

@@ -8,7 +8,7 @@ ghost use Rattle.meaning.specs.Signature.{codeFix};
 ghost use Rattle.meaning.specs.ReadValue.{valid as validOf, readFix};
 ghost use Rattle.meaning.specs.FixedValue.{signed, double as doubleOf, fixedValue, fixedFrom, readFixed};
 ghost use Rattle.meaning.specs.Writers.{isAlignment};
-ghost use Rattle.integers.specs.Loaded.{Loaded};
+ghost use Rattle.util.specs.Loaded.{Loaded};
 ghost use Rattle.read.specs.Coded.{Coded, Holds};
 ghost use Rattle.read.specs.Bits.{letterOf, extended as extendedOf, doubleBits, bitsOf};
 use meaning::Fault;
@@ -17,6 +17,7 @@ use meaning::FixedValue;
 use meaning::Order;
 use meaning::Place;
 use meaning::Reached;
+use util::integers;
 
 // Two's complement: from the sign bit on, a number stands as far below zero as all ones stand above it, and one more.
 fn signed16(bits: u16) -> i16

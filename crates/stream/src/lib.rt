@@ -2,11 +2,13 @@
 ghost use mathlib.Core.Path.{_≡_};
 ghost use lib.ListN.{length};
 ghost use Rattle.stream.specs.Next.{isShort, statedSize, nextOf, Within};
+use header::fixed_header;
 use meaning::Fault;
 use meaning::Header;
 use meaning::HeaderRead;
 use meaning::Length;
 use meaning::Refusal;
+use util::integers;
 
 pub enum Next {
     // A message that was checked.

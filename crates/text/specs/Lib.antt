@@ -1,2 +1,3 @@
 pub mod Class
 pub mod Verdict
+pub mod Ends

@@ -1,4 +1,6 @@
 // Text (util.rs, validation.rs): UTF-8, zero bytes and object paths: document 01, port order 2.
+pub mod strings;
+
 ghost use mathlib.Core.Path.{_≡_};
 ghost use mathlib.Core.Bool.{true};
 ghost use mathlib.Core.List.{List, _∷_};

@@ -4,7 +4,6 @@
 // see nothing from the end on (string, path, signature, padding to 8). Where there is an order, little comes first. A line with # is a title.
 use libc::STDIN_FILENO;
 use libc::STDOUT_FILENO;
-use lines::Taken;
 use meaning::Checked;
 use meaning::Integer;
 use meaning::Length;
@@ -12,7 +11,10 @@ use meaning::Order;
 use meaning::Place;
 use meaning::Reached;
 use meaning::Refusal;
+use question_lines::Taken;
 use text::Text;
+use text::strings;
+use util::integers;
 
 fn put(s: &[u8]) {
     io::write_all(STDOUT_FILENO, s);
@@ -168,7 +170,7 @@ fn case(line: &[u8]) {
         return;
     }
     let mut out = [0u8; 64];
-    let Taken::Bytes(n) = lines::bytes_of(lines::tail(line), &mut out) else {
+    let Taken::Bytes(n) = question_lines::bytes_of(question_lines::tail(line), &mut out) else {
         return;
     };
     put(b":");

@@ -21,16 +21,16 @@ use Rattle.meaning.specs.Header.{readHeader}
 use Rattle.meaning.proofs.Local.{bind-got, bind-fault, bind-inv, bind-is, Ran, ran, stopped, ret-inv, ret-no-fault, fault-inj, bytes-yes, bytes-no}
 use Rattle.meaning.proofs.Meets.{here-bind, check-bind, check-bind-inv, bytes-bind-inv}
 use Rattle.meaning.proofs.MessageLocal.{inside-end, fieldsR-bounded, fieldsR-full}
-use Rattle.fixed_header.specs.declared.Start.{Start}
-use Rattle.fixed_header.specs.declared.Began.{Began}
-use Rattle.fixed_header.specs.declared.Began.the-variants.{Read as Begins, Refused as Unbegun}
-use Rattle.header_fields.specs.declared.TableRead.{TableRead}
-use Rattle.header_fields.specs.declared.TableRead.the-variants.{Read as Tabled, Refused as NoTable}
-use Rattle.fixed_header.specs.Steps.{startOf, beganOf}
-use Rattle.header_fields.specs.Steps.{fieldsR, fieldsFrom, tableTo}
-use Rattle.body.specs.Steps.{Held}
-use Rattle.fixed_header.proofs.HeadLaws.{kindThen, markThen, check-stop}
-use Rattle.body.proofs.AfterLaws.{after1, after2, after3, inside-on, inside-over, opens, not-opened}
+use Rattle.header.specs.declared.fixed_header.Start.{Start}
+use Rattle.header.specs.declared.fixed_header.Began.{Began}
+use Rattle.header.specs.declared.fixed_header.Began.the-variants.{Read as Begins, Refused as Unbegun}
+use Rattle.header.specs.declared.header_fields.TableRead.{TableRead}
+use Rattle.header.specs.declared.header_fields.TableRead.the-variants.{Read as Tabled, Refused as NoTable}
+use Rattle.header.specs.FixedHeader.{startOf, beganOf}
+use Rattle.header.specs.HeaderFields.{fieldsR, fieldsFrom, tableTo}
+use Rattle.unmarshal.specs.Body.{Held}
+use Rattle.header.proofs.fixed_header.HeadLaws.{kindThen, markThen, check-stop}
+use Rattle.unmarshal.proofs.body.AfterLaws.{after1, after2, after3, inside-on, inside-over, opens, not-opened}
 
 module _ (b : List ℕ) where
   -- the first 12 bytes

@@ -1,10 +1,16 @@
 // Messages (unmarshal.rs): the fixed header, the header fields, the body, and the header that comes of them: document 01, port order 5.
+pub mod body;
+pub mod check_message;
+
 ghost use mathlib.Core.Path.{_≡_};
 ghost use Rattle.meaning.specs.Header.{readHeader};
-use fixed_header::Began;
-use header_fields::TableRead;
+use header::fixed_header;
+use header::fixed_header::Began;
+use header::header_fields;
+use header::header_fields::TableRead;
 use meaning::Fault;
 use meaning::HeaderRead;
+use util::integers;
 
 // The header of the message at the start of the buffer, once the whole message is checked.
 pub fn unmarshal_header(buf: &[u8]) -> HeaderRead

@@ -1,4 +1,6 @@
 // Padding (util.rs), and what an entry point makes of where a reader gets to: document 01, port order 1.
+pub mod integers;
+
 ghost use mathlib.Core.Path.{_≡_};
 ghost use Prim.Native.Nat.{_+_, _≤_, _<_};
 ghost use lib.Dec.{T};

@@ -23,10 +23,10 @@ use Rattle.meaning.proofs.Local.{leb-false}
 use Rattle.meaning.proofs.PlaceLaws.{whole-type}
 use Rattle.meaning.proofs.ValueLocal.{readTop-local}
 use Rattle.meaning.proofs.ValueDemands.{checkValue-is}
-use Rattle.walk.specs.declared.Walked.{Walked}
-use Rattle.walk.specs.declared.Walked.the-variants.{Past, Refused as Stopped}
-use Rattle.walk.specs.Walk.{walkedOf}
-use Rattle.walk.proofs.WalkLaws.{past-inv, stopped-inv}
+use Rattle.validate_raw.specs.declared.walk.Walked.{Walked}
+use Rattle.validate_raw.specs.declared.walk.Walked.the-variants.{Past, Refused as Stopped}
+use Rattle.validate_raw.specs.Walk.{walkedOf}
+use Rattle.validate_raw.proofs.walk.WalkLaws.{past-inv, stopped-inv}
 
 -- one type
 pub record Single (s : List ℕ) : Type 0 where

@@ -1,4 +1,8 @@
 // Values checked raw (validate_raw.rs): document 01, port order 4.
+pub mod array_head;
+pub mod first_bytes;
+pub mod walk;
+
 ghost use mathlib.Core.Path.{_≡_};
 ghost use Rattle.meaning.specs.ReadValue.{checkValue};
 use meaning::Checked;

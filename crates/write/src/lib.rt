@@ -1,4 +1,7 @@
 // The writers of padding and integers (util.rs), into a buffer that the caller lends: document 01, port order 6.
+pub mod store;
+pub mod texts;
+
 ghost use mathlib.Core.Path.{_≡_};
 ghost use lib.Dec.{T};
 ghost use Rattle.meaning.specs.Writers.{isAlignment, writeAt, paddingBytes, integerBytes};

@@ -15,12 +15,12 @@ use Rattle.basic.proofs.bare.Statement.{statement}
 use Rattle.basic.proofs.bare.Tie as tie
 use Rattle.basic.proofs.bare.Reads as reads
 use Rattle.basic.proofs.bare.Lts as lts
-use Rattle.strings.proofs.read_path.Reads as read-path-reads
-use Rattle.strings.proofs.read_string.Reads as read-string-reads
+use Rattle.text.proofs.strings.read_path.Reads as read-path-reads
+use Rattle.text.proofs.strings.read_string.Reads as read-string-reads
 use Rattle.types.proofs.size.Reads as size-reads
 use Rattle.basic.proofs.boolean.Reads as boolean-reads
 use Rattle.basic.proofs.fixed.Reads as fixed-reads
-use Rattle.spelled.proofs.signature_value.Reads as signature-value-reads
+use Rattle.basic.proofs.spelled.signature_value.Reads as signature-value-reads
 
 read-string-requires : tie.Need-read-string-requires
 read-string-requires c κs = search needs

@@ -16,7 +16,7 @@ use Rattle.basic.proofs.boolean.Tie as tie
 use Rattle.basic.proofs.boolean.Reads as reads
 use Rattle.basic.proofs.boolean.Lts as lts
 use Rattle.meaning.proofs.refuse.Reads as refuse-reads
-use Rattle.integers.proofs.load32.Reads as load32-reads
+use Rattle.util.proofs.integers.load32.Reads as load32-reads
 
 sub-if1 : tie.Need-sub-if1
 sub-if1 c = search needs

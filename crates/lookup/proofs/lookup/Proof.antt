@@ -1,6 +1,6 @@
 -- The entry that is found says which part of the message it is; without one the fallback comes back.
 use native.Mathlib.Omega.{arith}
-use Rattle.header_fields.proofs.TableLaws.{bytes-of}
+use Rattle.header.proofs.header_fields.TableLaws.{bytes-of}
 use Rattle.lookup.proofs.LookupLaws.{look-text, look-number, look-absent}
 use borrow.Author.Needs.{needs}
 use Rattle.lookup.proofs.lookup.Statement.{statement}

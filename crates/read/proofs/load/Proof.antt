@@ -2,7 +2,7 @@
 use native.Mathlib.Omega.{arith}
 use mathlib.Core.Path.{refl}
 use Rattle.util.proofs.Pads.{is-one}
-use Rattle.integers.proofs.Loads.{single}
+use Rattle.util.proofs.integers.Loads.{single}
 use borrow.Author.Needs.{needs}
 use Rattle.read.proofs.load.Statement.{statement}
 use Rattle.read.proofs.load.Tie as tie

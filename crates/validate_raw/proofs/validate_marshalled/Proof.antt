@@ -9,7 +9,7 @@ use Rattle.validate_raw.proofs.validate_marshalled.Reads as reads
 use Rattle.validate_raw.proofs.validate_marshalled.Lts as lts
 use Rattle.meaning.proofs.refuse.Reads as refuse-reads
 use Rattle.signature.proofs.parse_description.Reads as parse-description-reads
-use Rattle.walk.proofs.value.Reads as value-reads
+use Rattle.validate_raw.proofs.walk.value.Reads as value-reads
 
 parse-description-requires : tie.Need-parse-description-requires
 parse-description-requires c κs = search needs

@@ -2,7 +2,7 @@
 use mathlib.Core.Path.{refl, sym, _∙_}
 use lib.ListN.{length-replicate}
 use Rattle.write.proofs.Paddings.{aligned, not-aligned}
-use Rattle.store.proofs.Writes.{outside, is-faulty, is-bytes, no-room, stored}
+use Rattle.write.proofs.store.Writes.{outside, is-faulty, is-bytes, no-room, stored}
 use borrow.Author.Needs.{needs}
 use Rattle.write.proofs.pad_to_align.Statement.{statement}
 use Rattle.write.proofs.pad_to_align.Tie as tie

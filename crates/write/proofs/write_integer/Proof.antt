@@ -2,7 +2,7 @@
 use mathlib.Core.Path.{refl, sym}
 use Rattle.meaning.specs.Number.{store}
 use Rattle.meaning.proofs.NumberLaws.{length-store}
-use Rattle.store.proofs.Writes.{outside, is-bytes, no-room, stored}
+use Rattle.write.proofs.store.Writes.{outside, is-bytes, no-room, stored}
 use borrow.Author.Needs.{needs}
 use Rattle.write.proofs.write_integer.Statement.{statement}
 use Rattle.write.proofs.write_integer.Tie as tie

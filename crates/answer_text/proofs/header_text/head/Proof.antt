@@ -1,0 +1,13 @@
+-- The length, the byte order, then the numbers.
+use Rattle.text_out.proofs.PutLaws.{then}
+use borrow.Author.Needs.{needs}
+use Rattle.answer_text.proofs.header_text.head.Statement.{statement}
+use Rattle.answer_text.proofs.header_text.head.Tie as tie
+
+returns : tie.Need-returns
+returns c =
+    then (rw (c .before .before .before .before .before .before .before .before .before .before .before .before .length-of .ensures) at (c .before .before .before .before .before .before .before .before .before .before .before .labelled .ensures)) (then (rw (c .before .before .before .before .before .before .before .mark-of .ensures) at (c .before .before .before .before .before .before .mark .ensures)) (c .before .before .numbers .ensures))
+
+pub head-spec : {M : Type 1} → statement M
+head-spec =
+    tie.close (tie.spec (λ c. search needs) (λ c κs. search needs) (λ c κs. search needs) (λ c κs. search needs) (λ c κs. search needs) (λ c κs. search needs) (λ c. search needs) returns)

@@ -1,0 +1,63 @@
+-- How many types there are decides; one of them stands between the length byte and the zero.
+use mathlib.Core.Path.{_≡_, sym, _∙_, ap}
+use native.Mathlib.Omega.{arith}
+use Rattle.meaning.specs.declared.Order.the-variants.{Little}
+use Rattle.basic.proofs.spelled.SpellLaws.{inner-stop, inner-none, inner-more, inner-one, inner-past}
+use borrow.Author.Needs.{needs}
+use Rattle.basic.proofs.spelled.inner.Statement.{statement}
+use Rattle.basic.proofs.spelled.inner.Tie as tie
+use Rattle.basic.proofs.spelled.inner.Reads as reads
+use Rattle.basic.proofs.spelled.inner.Lts as lts
+use Rattle.meaning.proofs.refuse.Reads as refuse-reads
+use Rattle.basic.proofs.spelled.spelled_types.Reads as spelled-types-reads
+
+spelled-types-requires : tie.Need-spelled-types-requires
+spelled-types-requires c κs = search needs
+
+enum-known-n : tie.Need-enum-known-n
+enum-known-n c = search needs
+
+add-t11 : tie.Need-add-t11
+add-t11 c = search needs
+
+sub-t12 : tie.Need-sub-t12
+sub-t12 c =
+    let i = inner-past Little _ _ _ (c .before .before .before .before .before .before .pre) _ _ (sym (c .before .before .n .given .1) ∙ c .before .before .before .before .spelled-types .ensures Little) in
+    omega arith
+
+refuse-requires : tie.Need-refuse-requires
+refuse-requires c κs = search needs
+
+refuse-requires-2 : tie.Need-refuse-requires-2
+refuse-requires-2 c κs = search needs
+
+enum-known-refusal : tie.Need-enum-known-refusal
+enum-known-refusal c = search needs
+
+returns : tie.Need-returns
+returns c = λ o. inner-one o _ _ _ (c .before .before .before .before .before .before .pre) _ _ (c .if1 .taken) (sym (c .before .before .n .given .1) ∙ c .before .before .before .before .spelled-types .ensures o)
+
+returns-2 : tie.Need-returns-2
+returns-2 c = λ o. inner-none o _ _ _ (c .before .before .before .before .before .before .before .before .pre) _ _ _ (c .before .if2 .taken) (sym (c .before .before .before .before .n .given .1) ∙ c .before .before .before .before .before .before .spelled-types .ensures o) (c .refuse .ensures)
+
+returns-3 : tie.Need-returns-3
+returns-3 c = λ o. inner-more o _ _ _ (c .before .before .before .before .before .before .before .before .pre) _ _ _ (c .before .if2 .left) (c .before .before .if1 .left) (sym (c .before .before .before .before .n .given .1) ∙ c .before .before .before .before .before .before .spelled-types .ensures o) (c .refuse2 .ensures)
+
+returns-4 : tie.Need-returns-4
+returns-4 c = λ o. inner-stop o _ _ _ (c .before .before .before .before .before .pre) _ (sym (c .before .refusal .given .1) ∙ c .before .before .before .spelled-types .ensures o)
+
+pub inner-spec : {M : Type 1} → statement M
+inner-spec =
+    tie.close
+    (tie.spec
+    spelled-types-requires
+    enum-known-n
+    add-t11
+    sub-t12
+    refuse-requires
+    refuse-requires-2
+    enum-known-refusal
+    returns
+    returns-2
+    returns-3
+    returns-4)

@@ -1,0 +1,86 @@
+-- The text is read, and the grammar checks the part of the buffer that holds it.
+use mathlib.Core.Path.{_≡_, sym, _∙_, ap}
+use native.Mathlib.Omega.{arith}
+use Rattle.meaning.specs.declared.Order.the-variants.{Little}
+use Rattle.basic.proofs.spelled.SpellLaws.{spelt-stop, spelt-types, spelt-refused, text-within}
+use borrow.Author.Needs.{needs}
+use Rattle.basic.proofs.spelled.spelled_types.Statement.{statement}
+use Rattle.basic.proofs.spelled.spelled_types.Tie as tie
+use Rattle.basic.proofs.spelled.spelled_types.Reads as reads
+use Rattle.basic.proofs.spelled.spelled_types.Lts as lts
+use Rattle.meaning.proofs.refuse.Reads as refuse-reads
+use Rattle.signature.proofs.parse_description.Reads as parse-description-reads
+use Rattle.text.proofs.strings.read_signature_text.Reads as read-signature-text-reads
+
+read-signature-text-requires : tie.Need-read-signature-text-requires
+read-signature-text-requires c κs = search needs
+
+enum-known-place : tie.Need-enum-known-place
+enum-known-place c = search needs
+
+add-first : tie.Need-add-first
+add-first c = search needs
+
+sub-stop : tie.Need-sub-stop
+sub-stop c =
+    let r = text-within Little _ _ _ (c .before .before .before .before .before .pre) _ (sym (c .before .before .before .read-signature-text .ensures Little) ∙ c .before .place .given .1) in
+    omega arith
+
+sub-parse-description : tie.Need-sub-parse-description
+sub-parse-description c =
+    let r = text-within Little _ _ _ (c .before .before .before .before .before .pre) _ (sym (c .before .before .before .read-signature-text .ensures Little) ∙ c .before .place .given .1) in
+    omega arith
+
+part-parse-description-start : tie.Need-part-parse-description-start
+part-parse-description-start c =
+    let r = text-within Little _ _ _ (c .before .before .before .before .before .pre) _ (sym (c .before .before .before .read-signature-text .ensures Little) ∙ c .before .place .given .1) in
+    omega arith
+
+part-parse-description-end : tie.Need-part-parse-description-end
+part-parse-description-end c =
+    let r = text-within Little _ _ _ (c .before .before .before .before .before .pre) _ (sym (c .before .before .before .read-signature-text .ensures Little) ∙ c .before .place .given .1) in
+    omega arith
+
+parse-description-requires : tie.Need-parse-description-requires
+parse-description-requires c κs = search needs
+
+enum-known-n : tie.Need-enum-known-n
+enum-known-n c = search needs
+
+enum-known-refusal : tie.Need-enum-known-refusal
+enum-known-refusal c = search needs
+
+refuse-requires : tie.Need-refuse-requires
+refuse-requires c κs = search needs
+
+enum-known-refusal-2 : tie.Need-enum-known-refusal-2
+enum-known-refusal-2 c = search needs
+
+returns : tie.Need-returns
+returns c = λ o. spelt-types o _ _ _ (c .before .before .before .before .before .before .before .before .before .before .pre) _ (sym (c .before .before .before .before .before .before .before .before .read-signature-text .ensures o) ∙ c .before .before .before .before .before .before .place .given .1) _ (sym (c .before .n .given .1) ∙ c .before .before .before .parse-description .ensures)
+
+returns-2 : tie.Need-returns-2
+returns-2 c = λ o. spelt-refused o _ _ _ (c .before .before .before .before .before .before .before .before .before .before .before .pre) _ (sym (c .before .before .before .before .before .before .before .before .before .read-signature-text .ensures o) ∙ c .before .before .before .before .before .before .before .place .given .1) _ _ (sym (c .before .before .refusal .given .1) ∙ c .before .before .before .before .parse-description .ensures) (c .refuse .ensures)
+
+returns-3 : tie.Need-returns-3
+returns-3 c = λ o. spelt-stop o _ _ _ (c .before .before .before .before .before .pre) _ (sym (c .before .before .before .read-signature-text .ensures o) ∙ c .before .refusal2 .given .1)
+
+pub spelled-types-spec : {M : Type 1} → statement M
+spelled-types-spec =
+    tie.close
+    (tie.spec
+    read-signature-text-requires
+    enum-known-place
+    add-first
+    sub-stop
+    sub-parse-description
+    part-parse-description-start
+    part-parse-description-end
+    parse-description-requires
+    enum-known-n
+    enum-known-refusal
+    refuse-requires
+    enum-known-refusal-2
+    returns
+    returns-2
+    returns-3)

@@ -1,0 +1,31 @@
+-- What the functions of this crate answer, in terms of the readers of the meaning crate.
+use Prim.Native.Nat.{ℕ, _+_, _-_}
+use mathlib.Core.List.{List}
+use lib.ListN.{length}
+use Rattle.meaning.specs.declared.Order.{Order}
+use Rattle.meaning.specs.Types.{Ty}
+use Rattle.meaning.specs.Signature.{parse}
+use Rattle.meaning.specs.Reader.{Res, got, fault, R, here, _>>=_}
+use Rattle.meaning.specs.ReadValue.{readSig, accept, single}
+use Rattle.basic.specs.declared.spelled.Opened.{Opened}
+use Rattle.basic.specs.declared.spelled.Opened.the-variants.{Inside, Shut}
+use Rattle.basic.specs.declared.spelled.Spelt.{Spelt}
+use Rattle.basic.specs.declared.spelled.Spelt.the-variants.{Types, Refused as Misspelt}
+
+-- the types that a signature among the bytes spells
+unfoldable pub spelledR : Order → R (List Ty)
+spelledR o = here >>= λ p. readSig o >>= λ s. accept (parse s) p
+
+-- how many they are, and the place after them
+abbrev pub speltOf : Res (List Ty) → Spelt
+speltOf (got ts e) = Types (length ts) e
+speltOf (fault x) = Misspelt x
+
+-- a variant's type
+unfoldable pub variantTypeR : Order → R Ty
+variantTypeR o = here >>= λ p. spelledR o >>= λ ts. single ts p
+
+-- where a variant's signature begins and ends: between the byte that says how long it is and the zero after it
+abbrev pub innerOf : ℕ → Res Ty → Opened
+innerOf off (got t e) = Inside (off + 1) (e - 1)
+innerOf off (fault x) = Shut x

@@ -1,0 +1,86 @@
+-- The text is read, and the grammar counts the types of the part of the buffer that holds it.
+use mathlib.Core.Path.{sym, _∙_}
+use native.Mathlib.Omega.{arith}
+use Rattle.meaning.specs.declared.Order.the-variants.{Little}
+use Rattle.basic.proofs.spelled.SpellLaws.{text-within}
+use Rattle.header.proofs.header_field.OneLaws.{one-stop, one-refused, one-other, one-read}
+use borrow.Author.Needs.{needs}
+use Rattle.header.proofs.header_field.one_type.Statement.{statement}
+use Rattle.header.proofs.header_field.one_type.Tie as tie
+
+read-signature-text-requires : tie.Need-read-signature-text-requires
+read-signature-text-requires c κs = search needs
+
+enum-known-place : tie.Need-enum-known-place
+enum-known-place c = search needs
+
+add-first : tie.Need-add-first
+add-first c = search needs
+
+sub-stop : tie.Need-sub-stop
+sub-stop c = let r = text-within Little _ _ _ (c .before .before .before .before .before .pre) _ (sym (c .before .before .before .read-signature-text .ensures Little) ∙ c .before .place .given .1) in
+    omega arith
+
+sub-parse-description : tie.Need-sub-parse-description
+sub-parse-description c = let r = text-within Little _ _ _ (c .before .before .before .before .before .pre) _ (sym (c .before .before .before .read-signature-text .ensures Little) ∙ c .before .place .given .1) in
+    omega arith
+
+part-parse-description-start : tie.Need-part-parse-description-start
+part-parse-description-start c = let r = text-within Little _ _ _ (c .before .before .before .before .before .pre) _ (sym (c .before .before .before .read-signature-text .ensures Little) ∙ c .before .place .given .1) in
+    omega arith
+
+part-parse-description-end : tie.Need-part-parse-description-end
+part-parse-description-end c = let r = text-within Little _ _ _ (c .before .before .before .before .before .pre) _ (sym (c .before .before .before .read-signature-text .ensures Little) ∙ c .before .place .given .1) in
+    omega arith
+
+parse-description-requires : tie.Need-parse-description-requires
+parse-description-requires c κs = search needs
+
+enum-known-n : tie.Need-enum-known-n
+enum-known-n c = search needs
+
+refuse-requires : tie.Need-refuse-requires
+refuse-requires c κs = search needs
+
+enum-told : tie.Need-enum-told
+enum-told c = search needs
+
+refuse-requires-2 : tie.Need-refuse-requires-2
+refuse-requires-2 c κs = search needs
+
+enum-known-refusal : tie.Need-enum-known-refusal
+enum-known-refusal c = search needs
+
+returns : tie.Need-returns
+returns c = λ o. one-read o _ _ _ (c .before .before .before .before .before .before .before .before .before .before .before .pre) _ (sym (c .before .before .before .before .before .before .before .before .before .read-signature-text .ensures o) ∙ c .before .before .before .before .before .before .before .place .given .1) _ (sym (c .before .before .n .given .1) ∙ c .before .before .before .before .parse-description .ensures) (c .if1 .taken)
+
+returns-2 : tie.Need-returns-2
+returns-2 c = λ o. one-other o _ _ _ (c .before .before .before .before .before .before .before .before .before .before .before .before .pre) _ (sym (c .before .before .before .before .before .before .before .before .before .before .read-signature-text .ensures o) ∙ c .before .before .before .before .before .before .before .before .place .given .1) _ _ (sym (c .before .before .before .n .given .1) ∙ c .before .before .before .before .before .parse-description .ensures) (c .before .if1 .left) (c .refuse .ensures)
+
+returns-3 : tie.Need-returns-3
+returns-3 c = λ o. one-refused o _ _ _ (c .before .before .before .before .before .before .before .before .before .before .pre) _ (sym (c .before .before .before .before .before .before .before .before .read-signature-text .ensures o) ∙ c .before .before .before .before .before .before .place .given .1) _ _ (sym (c .before .enum-told .given .1) ∙ c .before .before .before .parse-description .ensures) (c .refuse2 .ensures)
+
+returns-4 : tie.Need-returns-4
+returns-4 c = λ o. one-stop o _ _ _ (c .before .before .before .before .before .pre) _ (sym (c .before .before .before .read-signature-text .ensures o) ∙ c .before .refusal .given .1)
+
+pub one-type-spec : {M : Type 1} → statement M
+one-type-spec =
+    tie.close
+    (tie.spec
+    read-signature-text-requires
+    enum-known-place
+    add-first
+    sub-stop
+    sub-parse-description
+    part-parse-description-start
+    part-parse-description-end
+    parse-description-requires
+    enum-known-n
+    refuse-requires
+    enum-told
+    refuse-requires-2
+    enum-known-refusal
+    returns
+    returns-2
+    returns-3
+    returns-4)

@@ -1,0 +1,3 @@
+pub mod FixedHeader
+pub mod HeaderField
+pub mod HeaderFields

@@ -1,0 +1,39 @@
+-- The loop's invariant: what is left of the digits leads from the number so far to the whole number, which is never smaller.
+use Rattle.question_lines.proofs.Laws.{too-large, read-whole}
+use Prim.Native.Nat.{_+_, _*_, _^_, _-_, _≤_, _<_}
+use native.Mathlib.Omega.{arith}
+use mathlib.Core.Path.{_≡_, sym, _∙_}
+use lib.ListN.{length, drop, drop-of-length-le}
+use Rattle.question_lines.specs.Digits.{valueFrom}
+use Rattle.question_lines.proofs.Laws.{value-step}
+use borrow.Author.Needs.{needs}
+use Rattle.question_lines.proofs.value.Statement.{statement}
+use Rattle.question_lines.proofs.value.Tie as tie
+
+abbrev Inv-loop : tie.InvT-loop
+Inv-loop s n₀ i₀ n i = (i ≤ length s) × (n < 2 ^ 64) × (valueFrom n (drop i s) ≡ valueFrom 0 s)
+
+abbrev μ-loop : tie.MeasureT-loop
+μ-loop s n₀ i₀ n i = length s - i
+
+returns : tie.Need-returns Inv-loop μ-loop
+returns c =
+    let a = c .before .before .before .before .before .before .args in let l = c .before .before .before .before .loop in
+    too-large (l .n * 10 + c .before .digit .result) (drop (l .i + 1) (a .s .now)) (a .s .now) (omega arith)
+    (rw (c .before .digit .ensures) (sym (value-step (l .n) (a .s .now) (l .i) (omega arith))) ∙ l .inv .2)
+
+loop-again : tie.Need-loop-again Inv-loop μ-loop
+loop-again c =
+    let a = c .before .before .before .before .before .before .args in let l = c .before .before .before .before .loop in
+    (omega arith, omega arith, rw (c .before .digit .ensures) (sym (value-step (l .n) (a .s .now) (l .i) (omega arith))) ∙ l .inv .2)
+
+returns-2 : tie.Need-returns-2 Inv-loop μ-loop
+unfolding valueFrom
+returns-2 c =
+    let a = c .before .before .before .args in let l = c .before .loop in
+    read-whole (l .n) (a .s .now) (l .inv .1) (rw (drop-of-length-le (a .s .now) {i = l .i} (omega arith)) at (l .inv .2))
+
+pub value-spec : {M : Type 1} → statement M
+value-spec =
+    tie.close
+    (tie.spec Inv-loop μ-loop (λ c. search needs) (λ c. search needs) (λ c κs. search needs) (λ c. search needs) (λ c. search needs) returns (λ c. search needs) (λ c. search needs) (λ c. search needs) (λ c. search needs) loop-again returns-2)
