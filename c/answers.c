@@ -165,6 +165,20 @@ static bool message(struct question *q) {
     return true;
 }
 
+static bool next(struct question *q) {
+    struct bytes buf = bytes(q);
+    if (!asked(q)) {
+        return false;
+    }
+    struct mt_next n = mt_next_message(buf.at, buf.length);
+    if (n.state == MT_REFUSED) {
+        printf("no %" PRIu64 " %" PRIu64, n.position, n.number);
+    } else {
+        printf("%s %" PRIu64, n.state == MT_WHOLE ? "whole" : "cut", n.length);
+    }
+    return true;
+}
+
 static void entry(struct mt_entry e) {
     if (e.kind == MT_ABSENT) {
         printf(" -");
@@ -280,8 +294,8 @@ static bool wsig(struct question *q) {
 static const struct {
     const char *name;
     bool (*ask)(struct question *);
-} QUESTIONS[] = {{"sig", sig}, {"value", value}, {"fixed", fixed}, {"message", message}, {"header", header}, {"field", field},
-                 {"pad", pad}, {"w16", w16},     {"w32", w32},     {"w64", w64},         {"wstr", wstr},     {"wsig", wsig}};
+} QUESTIONS[] = {{"sig", sig},     {"value", value}, {"fixed", fixed}, {"message", message}, {"next", next}, {"header", header}, {"field", field},
+                 {"pad", pad},     {"w16", w16},     {"w32", w32},     {"w64", w64},         {"wstr", wstr}, {"wsig", wsig}};
 
 /* Takes the line apart, at each space, into a name and words, and answers it; false if it is no question. */
 static bool line(char *text) {

@@ -1,7 +1,8 @@
 /* Millettie: the wire core of D-Bus, proved. Link libmillettie.a (`rt staticlib millettie`).
 
    No function stops for any input, none keeps a pointer, and none allocates. A slice is a pointer and a length; with length 0 the pointer is
-   not read. Readers write nothing. A buffer to write into must not overlap the text that is written. */
+   not read. Readers write nothing. A buffer to write into must not overlap the text that is written. How much stack the calls need is said in
+   README.md, "Stack". */
 #ifndef MILLETTIE_H
 #define MILLETTIE_H
 
@@ -13,34 +14,40 @@
 extern "C" {
 #endif
 
-/* Why something is refused. 2 and 3 mean "too short": more bytes may help. The other refusals of a reader, but for 1, stay whatever follows. */
-enum mt_refusal {
-    MT_BAD_OFFSET = 1,                       /* the offset or the place to write at lies behind the end of the buffer */
-    MT_NOT_ENOUGH_BYTES = 2,                 /* the bytes end too early, or an array's length is not a whole number of elements */
-    MT_NOT_ENOUGH_BYTES_FOR_COLLECTION = 3,  /* an array or a dict is longer than the bytes that are there for it */
-    MT_PADDING_CONTAINED_DATA = 4,           /* a padding byte is not zero */
+/* The interface that this header describes. It grows when a function, a struct or a refusal changes: a program asks once whether the library
+   that it was linked with has the same. */
+#define MT_INTERFACE 2
+uint32_t mt_interface(void);
+
+/* Why something is refused. 2 and 3 mean "too short", and not "wait for ever": a whole message with a fault inside gets them too, where no further
+   byte helps. mt_next_message tells the two apart. The other refusals of a reader, but for 1, stay whatever follows. */
+enum mt_refusal { /* written by tools/refusals from docs/refusals.txt */
+    MT_BAD_OFFSET = 1,                       /* the offset or the writing place lies behind the end of the bytes */
+    MT_NOT_ENOUGH_BYTES = 2,                 /* a value, a field or a padding runs past its end, or an array's length is not a whole number of elements */
+    MT_NOT_ENOUGH_BYTES_FOR_COLLECTION = 3,  /* the contents of an array or a dict run past the end of the bytes that they stand in */
+    MT_PADDING_CONTAINED_DATA = 4,           /* a byte that only fills up to an alignment is not zero */
     MT_INVALID_BOOLEAN = 5,                  /* a boolean is neither 0 nor 1 */
-    MT_INVALID_UTF8 = 6,                     /* a text is not valid UTF-8 */
+    MT_INVALID_UTF8 = 6,                     /* a text is not UTF-8 */
     MT_STRING_CONTAINS_NULL_BYTE = 7,        /* a text has a zero byte inside */
-    MT_MISSING_TERMINATOR = 8,               /* the byte behind a text is not zero */
-    MT_INVALID_OBJECT_PATH = 9,              /* an object path breaks the rule: a slash before each part, and parts of letters, digits and _ */
-    MT_INVALID_SIGNATURE = 10,               /* a signature does not spell types */
-    MT_EMPTY_SIGNATURE = 11,                 /* a signature is empty where at least one type is asked for */
+    MT_MISSING_TERMINATOR = 8,               /* the byte after a text, which has to be zero, is not */
+    MT_INVALID_OBJECT_PATH = 9,              /* an object path is neither / nor one or more names of A-Z a-z 0-9 _ with a / before each */
+    MT_INVALID_SIGNATURE = 10,               /* a signature has a byte or a bracket that the grammar does not allow there */
+    MT_EMPTY_SIGNATURE = 11,                 /* a signature is empty where a type has to stand */
     MT_EMPTY_STRUCT = 12,                    /* a signature has a struct without fields */
     MT_SIGNATURE_TOO_LONG = 13,              /* a signature has more than 255 bytes */
-    MT_NESTING_TOO_DEEP = 14,                /* a signature has a type inside of more than 31 arrays or more than 31 structs */
-    MT_WRONG_SIGNATURE = 15,                 /* a variant does not have exactly one type, or a header field has another type than its own */
-    MT_VARIANT_TOO_DEEP = 16,                /* more than 16 variants stand inside each other */
-    MT_INVALID_BYTE_ORDER = 17,              /* the first byte of a message is neither l nor B */
-    MT_INVALID_MESSAGE_TYPE = 18,            /* the type of a message is not 1 to 4: call, reply, error or signal */
-    MT_NO_SIGNATURE = 19,                    /* the signature of a header field is not one type */
+    MT_NESTING_TOO_DEEP = 14,                /* a signature nests more than 31 arrays or more than 31 structs */
+    MT_WRONG_SIGNATURE = 15,                 /* a variant's signature is not exactly one type, or a known header field has another type than its own */
+    MT_VARIANT_TOO_DEEP = 16,                /* a variant stands inside 16 others */
+    MT_INVALID_BYTE_ORDER = 17,              /* the first byte is neither l nor B, so no message begins here */
+    MT_INVALID_MESSAGE_TYPE = 18,            /* the second byte, the message's type, is not 1 to 4 */
+    MT_NO_SIGNATURE = 19,                    /* a header field's signature is not exactly one type */
     MT_INVALID_HEADER_FIELD = 20,            /* a header field has the code 0 */
     MT_INVALID_HEADER_FIELDS = 21,           /* a header field that this type of message needs is absent, or a known one stands twice */
-    MT_BODY_LEFT = 22,                       /* bytes of the body remain behind its last value */
-    MT_NO_ROOM = 23,                         /* the buffer has too little room behind the place for what is to be written */
+    MT_BODY_LEFT = 22,                       /* bytes of the body remain after the last value of its signature */
+    MT_NO_ROOM = 23,                         /* there are fewer bytes after the place than the write needs */
     MT_BAD_ALIGNMENT = 24,                   /* the alignment asked for is not 1, 2, 4 or 8 */
-    MT_TEXT_TOO_LONG = 25,                   /* a string has more than 4294967295 bytes */
-    MT_BAD_ARGUMENT = 26,                    /* the signature given by the caller is not exactly one type, or not a type that this call takes */
+    MT_TEXT_TOO_LONG = 25,                   /* a string to write has more than 4,294,967,295 bytes */
+    MT_BAD_ARGUMENT = 26,                    /* the signature asked about is not exactly one type, or not one that this call takes */
 };
 
 /* number 0: accepted, and length counts. Any other number is an mt_refusal: position counts, and length is 0. */
@@ -88,6 +95,18 @@ struct mt_part {
     uint64_t length;
 };
 
+enum mt_state { MT_WHOLE = 0, MT_CUT = 1, MT_REFUSED = 2 };
+
+/* What stands next in a stream. MT_WHOLE: a message of `length` bytes, all of it checked; it stays that, whatever follows. MT_CUT: fewer bytes are
+   there than its first 16 state (or fewer than 16), and `length` is how many to wait for. MT_REFUSED: no message, whatever follows; `number` is
+   an mt_refusal, and `position` counts. What does not count is 0. */
+struct mt_next {
+    uint64_t state;
+    uint64_t number;
+    uint64_t position;
+    uint64_t length;
+};
+
 /* Checks a bare signature; length: how many types it spells. */
 struct mt_answer mt_check_signature(const uint8_t *sig, size_t sig_len);
 
@@ -97,6 +116,9 @@ struct mt_answer mt_check_value(bool big, size_t offset, const uint8_t *buf, siz
 /* Checks the message at the start of buf; length: its bytes. The next message begins right behind them. */
 struct mt_answer mt_check_message(const uint8_t *buf, size_t buf_len);
 
+/* Says what stands at the start of buf, for whoever takes messages out of a stream: c/relay.c shows how. */
+struct mt_next mt_next_message(const uint8_t *buf, size_t buf_len);
+
 /* Reads the header of the message at the start of buf, once all of the message is checked; answer is mt_check_message's. */
 struct mt_header mt_read_header(const uint8_t *buf, size_t buf_len);
 
@@ -104,7 +126,7 @@ struct mt_header mt_read_header(const uint8_t *buf, size_t buf_len);
 struct mt_fixed mt_read_fixed(bool big, size_t offset, const uint8_t *buf, size_t buf_len, const uint8_t *sig, size_t sig_len);
 
 /* Finds the text of the header field with that code in a message. The fallback, whole, where there is none: no such field, a refused message,
-   or a code that is not 1 2 3 4 6 7 or 8. */
+   or a code that is not 1 2 3 4 6 7 or 8. It checks the whole message each time: who wants several fields reads them all by mt_read_header. */
 struct mt_part mt_lookup(const uint8_t *message, size_t message_len, uint8_t code, const uint8_t *fallback, size_t fallback_len);
 
 /* Writers put bytes at place in buf; length: how many. A refused write changes no byte. Only mt_write_padding pads. */

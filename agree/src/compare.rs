@@ -3,7 +3,12 @@ use std::collections::BTreeMap;
 use std::fs;
 use std::io;
 
-const REFUSALS: usize = 26;
+// The numbers of the refusals, of the table that names them.
+fn refusals() -> Vec<usize> {
+    let table = include_str!("../../docs/refusals.txt");
+    let number = |row: &str| row.split(" | ").next()?.parse().ok();
+    table.lines().filter_map(number).collect()
+}
 
 type Lines = Vec<Vec<u8>>;
 
@@ -31,10 +36,10 @@ impl Tally {
         let answer = short(answer);
         let words: Vec<&str> = answer.split(' ').collect();
         match words[..] {
-            ["ok" | "text", ..] => self.ok += 1,
+            ["ok" | "text" | "whole" | "cut", ..] => self.ok += 1,
             ["bad"] => self.bad += 1,
             ["no", _, number, ..] => {
-                let number = number.parse().ok().filter(|n| (1..=REFUSALS).contains(n));
+                let number = number.parse().ok().filter(|n| refusals().contains(n));
                 *self
                     .refused
                     .entry(number.ok_or(answer.clone())?)
@@ -46,9 +51,9 @@ impl Tally {
     }
 }
 
-const KINDS: [&str; 12] = [
-    "value", "sig", "fixed", "message", "header", "field", "pad", "w16", "w32", "w64", "wstr",
-    "wsig",
+const KINDS: [&str; 13] = [
+    "value", "sig", "fixed", "message", "next", "header", "field", "pad", "w16", "w32", "w64",
+    "wstr", "wsig",
 ];
 
 fn kind(question: &[u8], answer: &[u8]) -> &'static str {
@@ -81,14 +86,16 @@ fn print(tallies: &BTreeMap<&str, Tally>) {
             *all.entry(*number).or_insert(0) += times;
         }
     }
-    let missing: Vec<String> = (1..=REFUSALS)
+    let numbers = refusals();
+    let missing: Vec<String> = numbers
+        .iter()
         .filter(|n| !all.contains_key(n))
         .map(|n| n.to_string())
         .collect();
     println!(
         "refusals that were given: {} of {}; not given: {}",
         all.len(),
-        REFUSALS,
+        numbers.len(),
         if missing.is_empty() {
             "none".to_string()
         } else {

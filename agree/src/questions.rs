@@ -141,13 +141,14 @@ fn write(random: &mut Random) -> String {
 }
 
 fn good(random: &mut Random) -> String {
-    match random.below(12) {
+    match random.below(13) {
         0..=3 => any_value(random),
         4 => format!("sig {}", hex(&signature(random))),
         5 => fixed(random),
         6 | 7 => format!("message {}", hex(&any_message(random, &[0, 100, 30]))),
         8 => format!("header {}", hex(&any_message(random, &[0, 0, 100, 30]))),
         9 => field(random),
+        10 => format!("next {}", hex(&any_message(random, &[0, 100, 30]))),
         _ => write(random),
     }
 }

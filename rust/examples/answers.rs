@@ -183,6 +183,11 @@ fn answer(line: &[u8]) -> Option<String> {
             &bytes(s)?,
         )),
         [b"message", b] => counted(check_message(&bytes(b)?)),
+        [b"next", b] => match next_message(&bytes(b)?) {
+            Next::Whole(length) => format!("whole {}", length),
+            Next::Cut(length) => format!("cut {}", length),
+            Next::Refused(refusal) => no(refusal),
+        },
         [b"header", b] => unmarshal_header(&bytes(b)?).map_or_else(no, header),
         [b"field", c, m, f] => {
             // a code above 255 is no field's, as 0 is none

@@ -43,11 +43,24 @@ pub struct Part {
     pub length: u64,
 }
 
+#[repr(C)]
+pub struct Next {
+    pub state: u64,
+    pub number: u64,
+    pub position: u64,
+    pub length: u64,
+}
+
+/// The interface that these bindings were written for: `MT_INTERFACE` of include/millettie.h.
+pub const INTERFACE: u32 = 2;
+
 #[rustfmt::skip]
 extern "C" {
+    fn mt_interface() -> u32;
     fn mt_check_signature(sig: *const u8, sig_len: usize) -> Answer;
     fn mt_check_value(big: bool, offset: usize, buf: *const u8, buf_len: usize, sig: *const u8, sig_len: usize) -> Answer;
     fn mt_check_message(buf: *const u8, buf_len: usize) -> Answer;
+    fn mt_next_message(buf: *const u8, buf_len: usize) -> Next;
     fn mt_read_header(buf: *const u8, buf_len: usize) -> Header;
     fn mt_read_fixed(big: bool, offset: usize, buf: *const u8, buf_len: usize, sig: *const u8, sig_len: usize) -> Fixed;
     fn mt_lookup(message: *const u8, message_len: usize, code: u8, fallback: *const u8, fallback_len: usize) -> Part;
@@ -57,6 +70,12 @@ extern "C" {
     fn mt_write_u64(buf: *mut u8, buf_len: usize, place: usize, value: u64, big: bool) -> Answer;
     fn mt_write_string(buf: *mut u8, buf_len: usize, place: usize, text: *const u8, text_len: usize, big: bool) -> Answer;
     fn mt_write_signature(buf: *mut u8, buf_len: usize, place: usize, sig: *const u8, sig_len: usize) -> Answer;
+}
+
+/// The interface of the library that is linked.
+pub fn interface() -> u32 {
+    // Safety: takes nothing, and answers a number.
+    unsafe { mt_interface() }
 }
 
 fn big(byteorder: ByteOrder) -> bool {
@@ -85,6 +104,11 @@ pub fn check_value(byteorder: ByteOrder, offset: usize, buf: &[u8], sig: &[u8]) 
 pub fn check_message(buf: &[u8]) -> Answer {
     // Safety: reads the one slice.
     unsafe { mt_check_message(buf.as_ptr(), buf.len()) }
+}
+
+pub fn next_message(buf: &[u8]) -> Next {
+    // Safety: reads the one slice.
+    unsafe { mt_next_message(buf.as_ptr(), buf.len()) }
 }
 
 pub fn read_header(buf: &[u8]) -> Header {

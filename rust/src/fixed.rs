@@ -27,12 +27,12 @@ pub fn unmarshal_fixed(
 ) -> Result<(FixedValue, usize), Refusal> {
     let read = ffi::read_fixed(byteorder, offset, buf, sig);
     let length = accepted(read.answer)?;
-    Ok((value(read.kind, read.bits), length))
+    Ok((value(read.kind, read.bits)?, length))
 }
 
 // The bits are sign-extended, so that each width is the low part of them.
-fn value(kind: u8, bits: u64) -> FixedValue {
-    match kind {
+fn value(kind: u8, bits: u64) -> Result<FixedValue, Refusal> {
+    Ok(match kind {
         b'y' => FixedValue::Byte(bits as u8),
         b'b' => FixedValue::Boolean(bits != 0),
         b'n' => FixedValue::Int16(bits as i16),
@@ -43,7 +43,7 @@ fn value(kind: u8, bits: u64) -> FixedValue {
         b't' => FixedValue::Uint64(bits),
         b'd' => FixedValue::Double(f64::from_bits(bits)),
         b'N' => FixedValue::Nan(bits),
-        // `h`: the library hands out no other kind
-        _ => FixedValue::UnixFd(bits as u32),
-    }
+        b'h' => FixedValue::UnixFd(bits as u32),
+        _ => return Err(Refusal::misfit()),
+    })
 }

@@ -50,13 +50,13 @@ pub fn unmarshal_header(buf: &[u8]) -> Result<Header<'_>, Refusal> {
         } else {
             ByteOrder::LittleEndian
         },
-        typ: message_type(read.typ),
+        typ: message_type(read.typ)?,
         flags: read.flags,
         version: read.version,
         serial: read.serial,
         length,
         body: range(read.body_place, read.body_length),
-        fields: fields(&read.fields),
+        fields: fields(&read.fields)?,
     })
 }
 
@@ -127,13 +127,13 @@ impl<'a> Header<'a> {
     }
 }
 
-// The library hands out no other number than these four.
-fn message_type(number: u8) -> MessageType {
+fn message_type(number: u8) -> Result<MessageType, Refusal> {
     match number {
-        1 => MessageType::Call,
-        2 => MessageType::Reply,
-        3 => MessageType::Error,
-        _ => MessageType::Signal,
+        1 => Ok(MessageType::Call),
+        2 => Ok(MessageType::Reply),
+        3 => Ok(MessageType::Error),
+        4 => Ok(MessageType::Signal),
+        _ => Err(Refusal::misfit()),
     }
 }
 
@@ -141,21 +141,27 @@ fn range(place: u64, length: u64) -> Range<usize> {
     place as usize..(place + length) as usize
 }
 
-// A field's type is fixed by its code, so a number never stands where a text is asked for.
-fn fields(entries: &[ffi::Entry; 9]) -> Fields {
+// A field's type is fixed by its code: a number never stands where a text is asked for.
+fn fields(entries: &[ffi::Entry; 9]) -> Result<Fields, Refusal> {
     const ABSENT: u64 = 0;
-    let present = |code: usize| Some(&entries[code - 1]).filter(|entry| entry.kind != ABSENT);
-    let text = |code| present(code).map(|entry| range(entry.value, entry.length));
-    let number = |code| present(code).map(|entry| entry.value as u32);
-    Fields {
-        object: text(1),
-        interface: text(2),
-        member: text(3),
-        error_name: text(4),
-        response_serial: number(5),
-        destination: text(6),
-        sender: text(7),
-        signature: text(8),
-        num_fds: number(9),
-    }
+    const NUMBER: u64 = 1;
+    const TEXT: u64 = 2;
+    let present = |code: usize, kind| match &entries[code - 1] {
+        entry if entry.kind == ABSENT => Ok(None),
+        entry if entry.kind == kind => Ok(Some(entry)),
+        _ => Err(Refusal::misfit()),
+    };
+    let text = |code| Ok(present(code, TEXT)?.map(|entry| range(entry.value, entry.length)));
+    let number = |code| Ok(present(code, NUMBER)?.map(|entry| entry.value as u32));
+    Ok(Fields {
+        object: text(1)?,
+        interface: text(2)?,
+        member: text(3)?,
+        error_name: text(4)?,
+        response_serial: number(5)?,
+        destination: text(6)?,
+        sender: text(7)?,
+        signature: text(8)?,
+        num_fds: number(9)?,
+    })
 }

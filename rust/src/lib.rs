@@ -11,7 +11,7 @@
 //!
 //! let bad = [2, 0, 0, 0, b'k', b'1', 1];
 //! let refusal = validate_marshalled(ByteOrder::LittleEndian, 0, &bad, b"s").unwrap_err();
-//! assert_eq!(refusal.to_string(), "the byte behind a text is not zero (refusal 8, MissingTerminator) at byte 0");
+//! assert_eq!(refusal.to_string(), "the byte after a text, which has to be zero, is not (refusal 8, MissingTerminator) at byte 0");
 //! ```
 #![deny(unsafe_code)]
 
@@ -19,11 +19,13 @@
 mod ffi;
 mod fixed;
 mod header;
+mod next;
 mod refusal;
 mod write;
 
 pub use fixed::{unmarshal_fixed, FixedValue};
 pub use header::{lookup, unmarshal_header, Fields, Header, MessageType};
+pub use next::{next_message, Next};
 pub use refusal::Refusal;
 pub use write::{pad_to_align, write_signature, write_string, write_u16, write_u32, write_u64};
 
@@ -31,6 +33,12 @@ pub use write::{pad_to_align, write_signature, write_string, write_u16, write_u3
 pub enum ByteOrder {
     LittleEndian,
     BigEndian,
+}
+
+/// Whether the library that is linked has the interface that these bindings were written for. Where it has not, answers mean nothing: ask once,
+/// at the start.
+pub fn library_fits() -> bool {
+    ffi::interface() == ffi::INTERFACE
 }
 
 /// Checks a bare signature, and answers how many types it spells.

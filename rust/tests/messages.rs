@@ -1,7 +1,10 @@
 //! Messages: their ends, their headers, and the lookup of a field's text.
 mod common;
 use common::{hex, no};
-use millettie::{check_message, lookup, unmarshal_header, ByteOrder, MessageType};
+use millettie::{
+    check_message, library_fits, lookup, next_message, unmarshal_header, ByteOrder, MessageType, Next,
+    Refusal,
+};
 
 const CALL: &str = "6c 01 00 01 00 00 00 00 01 00 00 00 1a 00 00 00
     01 01 6f 00 01 00 00 00 2f 00 00 00 00 00 00 00 03 01 73 00 01 00 00 00 4b 00 00 00 00 00 00 00";
@@ -45,6 +48,40 @@ fn every_cut_is_too_short() {
                 length
             );
         }
+    }
+}
+
+#[test]
+fn the_library_is_the_one_for_these_bindings() {
+    assert!(library_fits());
+}
+
+#[test]
+fn what_stands_next() {
+    let both = [hex(SIGNAL), hex(CALL)].concat();
+    let whole = hex(SIGNAL).len();
+    for length in 0..both.len() {
+        let expected = match length {
+            0..=15 => Next::Cut(16),
+            _ if length < whole => Next::Cut(whole),
+            _ => Next::Whole(whole),
+        };
+        assert_eq!(next_message(&both[..length]), expected, "{}", length);
+    }
+}
+
+// 2 and 3 of a message that is all there are final: its table ends inside its last field, and stays so, whatever follows.
+#[test]
+fn too_short_inside_a_whole_message_is_refused() {
+    let mut shorter_table = hex(CALL);
+    shorter_table[12] = 0x19;
+    for length in 16..48 {
+        assert_eq!(next_message(&shorter_table[..length]), Next::Cut(48));
+    }
+    let longer = [shorter_table, hex(CALL)].concat();
+    for length in 48..=longer.len() {
+        let next = next_message(&longer[..length]);
+        assert_eq!(next, Next::Refused(Refusal::new(2, 0)), "{}", length);
     }
 }
 

@@ -1,40 +1,24 @@
 //! Refusals in words.
 use millettie::Refusal;
-use std::collections::HashSet;
+use std::collections::{BTreeMap, HashSet};
 
-const NAMES: [&str; 26] = [
-    "BadOffset",
-    "NotEnoughBytes",
-    "NotEnoughBytesForCollection",
-    "PaddingContainedData",
-    "InvalidBoolean",
-    "InvalidUtf8",
-    "StringContainsNullByte",
-    "MissingTerminator",
-    "InvalidObjectPath",
-    "InvalidSignature",
-    "EmptySignature",
-    "EmptyStruct",
-    "SignatureTooLong",
-    "NestingTooDeep",
-    "WrongSignature",
-    "VariantTooDeep",
-    "InvalidByteOrder",
-    "InvalidMessageType",
-    "NoSignature",
-    "InvalidHeaderField",
-    "InvalidHeaderFields",
-    "BodyLeft",
-    "NoRoom",
-    "BadAlignment",
-    "TextTooLong",
-    "BadArgument",
-];
+// The table that the bindings' words are made from, and the names of the refusals in it by their numbers.
+const TABLE: &str = include_str!("../../docs/refusals.txt");
+
+fn names() -> BTreeMap<u8, &'static str> {
+    let rows = TABLE.lines().filter(|line| !line.starts_with('#'));
+    rows.map(|row| {
+        let mut parts = row.split(" | ");
+        let number = parts.next().unwrap().parse().unwrap();
+        (number, parts.next().unwrap())
+    })
+    .collect()
+}
 
 #[test]
 fn every_number_prints_in_words() {
     let mut meanings = HashSet::new();
-    for (number, name) in (1..).zip(NAMES) {
+    for (number, name) in names() {
         let refusal = Refusal::new(number, 1000);
         assert_eq!(
             (refusal.number, refusal.name, refusal.position),
@@ -58,8 +42,10 @@ fn every_number_prints_in_words() {
 
 #[test]
 fn other_numbers_are_unknown() {
-    for number in [0, 27, 255] {
-        assert_eq!(Refusal::new(number, 0).name, "Unknown");
+    let names = names();
+    assert!(names.len() >= 26);
+    for number in (0..=255).filter(|number| !names.contains_key(number)) {
+        assert_eq!(Refusal::new(number, 0).name, "Misfit");
     }
 }
 

@@ -18,15 +18,21 @@ markTexts c = (32 ∷ c ∷ []) ∷ []
 abbrev pub numbersOf : Header → List ℕ
 numbersOf h = kindCode (h .kind) ∷ h .flags ∷ h .version ∷ h .serial ∷ h .body .0 ∷ h .«body_length» .0 ∷ []
 
-unfoldable pub numbersTexts : List ℕ → List (List ℕ)
-numbersTexts [] = []
-numbersTexts (n ∷ ns) = ((32 ∷ []) ∷ decimal n ∷ []) ++ numbersTexts ns
+-- the texts of each element, in order
+unfoldable pub eachTexts : {A : Type 0} → (A → List (List ℕ)) → List A → List (List ℕ)
+eachTexts texts [] = []
+eachTexts texts (x ∷ xs) = texts x ++ eachTexts texts xs
+
+-- a number behind a space
+abbrev pub numberTexts : ℕ → List (List ℕ)
+numberTexts n = (32 ∷ []) ∷ decimal n ∷ []
 
 abbrev pub headTexts : Header → List (List ℕ)
-headTexts h = okTexts (h .length .0) ++ (markTexts (mark (h .order)) ++ numbersTexts (numbersOf h))
+headTexts h = okTexts (h .length .0) ++ (markTexts (mark (h .order)) ++ eachTexts numberTexts (numbersOf h))
 
 abbrev pub entriesOf : Fields → List Entry
-entriesOf f = f .object ∷ f .interface ∷ f .member ∷ f .«error_name» ∷ f .«response_serial» ∷ f .destination ∷ f .sender ∷ f .signature ∷ f .«num_fds» ∷ []
+entriesOf f =
+    f .object ∷ f .interface ∷ f .member ∷ f .«error_name» ∷ f .«response_serial» ∷ f .destination ∷ f .sender ∷ f .signature ∷ f .«num_fds» ∷ []
 
 -- `-`, n:NUMBER or t:PLACE:LENGTH
 abbrev pub entryTexts : Entry → List (List ℕ)
@@ -34,12 +40,8 @@ entryTexts Absent = (32 ∷ 45 ∷ []) ∷ []
 entryTexts (Number n) = (32 ∷ 110 ∷ 58 ∷ []) ∷ decimal n ∷ []
 entryTexts (Text p n) = (32 ∷ 116 ∷ 58 ∷ []) ∷ decimal (p .0) ∷ (58 ∷ []) ∷ decimal (n .0) ∷ []
 
-unfoldable pub entriesTexts : List Entry → List (List ℕ)
-entriesTexts [] = []
-entriesTexts (e ∷ es) = entryTexts e ++ entriesTexts es
-
 abbrev pub wholeTexts : Header → List (List ℕ)
-wholeTexts h = headTexts h ++ entriesTexts (entriesOf (h .fields))
+wholeTexts h = headTexts h ++ eachTexts entryTexts (entriesOf (h .fields))
 
 abbrev pub headerTexts : HeaderRead → List (List ℕ)
 headerTexts (Read h) = wholeTexts h

@@ -4,7 +4,7 @@ ghost use Prim.Native.Nat.{_<_};
 ghost use lib.ListN.{getD};
 ghost use Rattle.meaning.specs.Message.{mark as markOf, kindCode};
 ghost use Rattle.text_out.specs.Puts.{Puts};
-ghost use Rattle.answer_text.specs.Headers.{markTexts, numbersOf, numbersTexts, entryTexts, entriesOf, entriesTexts, headTexts, wholeTexts, headerTexts};
+ghost use Rattle.answer_text.specs.Headers.{markTexts, numbersOf, numberTexts, entryTexts, entriesOf, eachTexts, headTexts, wholeTexts, headerTexts};
 use meaning::Entry;
 use meaning::Fields;
 use meaning::Header;
@@ -100,7 +100,7 @@ fn mark(out: &mut [u8], at: usize, letter: u8) -> usize
 }
 
 fn numbers(out: &mut [u8], at: usize, h: Header) -> usize
-    ensures { λ r. ⌜ Puts (now (out .entry)) at (numbersTexts (numbersOf h)) r (now (out .exit)) ⌝ }
+    ensures { λ r. ⌜ Puts (now (out .entry)) at (eachTexts numberTexts (numbersOf h)) r (now (out .exit)) ⌝ }
 {
     let mut behind = at;
     let mut i = 0;
@@ -125,7 +125,7 @@ fn entry(out: &mut [u8], at: usize, e: Entry) -> usize
 }
 
 fn entries(out: &mut [u8], at: usize, f: Fields) -> usize
-    ensures { λ r. ⌜ Puts (now (out .entry)) at (entriesTexts (entriesOf f)) r (now (out .exit)) ⌝ }
+    ensures { λ r. ⌜ Puts (now (out .entry)) at (eachTexts entryTexts (entriesOf f)) r (now (out .exit)) ⌝ }
 {
     let mut behind = at;
     let mut i = 0;

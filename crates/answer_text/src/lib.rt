@@ -3,9 +3,9 @@ pub mod fixed_text;
 pub mod header_text;
 
 ghost use mathlib.Core.List.{[], _∷_};
-ghost use Rattle.text_out.specs.Digits.{decimal};
+ghost use Rattle.text_out.specs.Digits.{bytesText, decimal};
 ghost use Rattle.text_out.specs.Puts.{Puts};
-ghost use Rattle.answer_text.specs.Texts.{badTexts, okTexts, refusedTexts, checkedTexts, countedTexts, bufferTexts, writtenTexts, textTexts};
+ghost use Rattle.answer_text.specs.Texts.{badTexts, okTexts, refusedTexts, checkedTexts, countedTexts, writtenTexts, textTexts};
 use meaning::Checked;
 use meaning::Counted;
 use meaning::Refusal;
@@ -24,6 +24,14 @@ pub fn labelled(out: &mut [u8], at: usize, word: &[u8], n: u64) -> usize
 {
     let behind = text_out::put(out, at, word);
     text_out::put_number(out, behind, n)
+}
+
+// Bytes behind a word.
+fn spelled(out: &mut [u8], at: usize, word: &[u8], s: &[u8]) -> usize
+    ensures { λ r. ⌜ Puts (now (out .entry)) at (now (word .entry) ∷ bytesText (now (s .entry)) ∷ []) r (now (out .exit)) ⌝ }
+{
+    let behind = text_out::put(out, at, word);
+    text_out::put_bytes(out, behind, s)
 }
 
 fn accepted(out: &mut [u8], at: usize, n: usize) -> usize
@@ -62,13 +70,6 @@ pub fn counted(out: &mut [u8], at: usize, c: Counted) -> usize
     }
 }
 
-fn buffer(out: &mut [u8], at: usize, buf: &[u8]) -> usize
-    ensures { λ r. ⌜ Puts (now (out .entry)) at (bufferTexts (now (buf .entry))) r (now (out .exit)) ⌝ }
-{
-    let gap = text_out::put(out, at, b" ");
-    text_out::put_bytes(out, gap, buf)
-}
-
 // What a write came to, and the buffer as it left it.
 pub fn written(out: &mut [u8], at: usize, w: Written, buf: &[u8]) -> usize
     ensures { λ r. ⌜ Puts (now (out .entry)) at (writtenTexts w (now (buf .entry))) r (now (out .exit)) ⌝ }
@@ -76,11 +77,11 @@ pub fn written(out: &mut [u8], at: usize, w: Written, buf: &[u8]) -> usize
     match w {
         Written::Done(place) => {
             let behind = accepted(out, at, place.0);
-            buffer(out, behind, buf)
+            spelled(out, behind, b" ", buf)
         }
         Written::Refused(r) => {
             let behind = refused(out, at, r);
-            buffer(out, behind, buf)
+            spelled(out, behind, b" ", buf)
         }
     }
 }
@@ -89,6 +90,5 @@ pub fn written(out: &mut [u8], at: usize, w: Written, buf: &[u8]) -> usize
 pub fn text(out: &mut [u8], at: usize, s: &[u8]) -> usize
     ensures { λ r. ⌜ Puts (now (out .entry)) at (textTexts (now (s .entry))) r (now (out .exit)) ⌝ }
 {
-    let behind = text_out::put(out, at, b"text ");
-    text_out::put_bytes(out, behind, s)
+    spelled(out, at, b"text ", s)
 }

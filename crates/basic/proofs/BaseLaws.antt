@@ -23,8 +23,8 @@ use Rattle.meaning.proofs.Meets.{here-bind, check-bind}
 use Rattle.meaning.specs.Writers.{isAlignment}
 use Rattle.meaning.proofs.PlaceLaws.{same-code}
 use Rattle.meaning.proofs.Loop.{at-inv, refused-inv}
-use Rattle.types.specs.Codes.{alignCode, sizeCode}
-use Rattle.types.proofs.CodeLaws.{align-base, size-fix, size-is-alignment}
+use Rattle.types.specs.Codes.{alignCode}
+use Rattle.types.proofs.CodeLaws.{align-base}
 use Rattle.basic.specs.Basic.{AnyBits}
 
 module _ (o : Order) (c : Fix) (b : List ℕ) (end off : ℕ) (ends : length b ≡ end) where
@@ -105,13 +105,8 @@ module _ (o : Order) (c : Fix) (n : ℕ) (b : List ℕ) (off : ℕ) (wide : n �
   unfolding bareR
   number-at q p r g k l = base-bare o (fix c) b off p r (wide-padding g ∙ k) l
 
--- the code of a number: what the table says of it, and what it is
-pub size-is : (c : Fix) (n : ℕ) → n ≡ sizeCode (codeFix c) → n ≡ size c
-size-is c n h = h ∙ size-fix c
-
-pub size-aligns : (c : Fix) (n : ℕ) → n ≡ sizeCode (codeFix c) → T (isAlignment n)
-size-aligns c n h = rw (size-is c n h) (size-is-alignment c)
-
-pub as-number : (o : Order) (b : List ℕ) (off : ℕ) (f : Fix) (c : Base) (n k : ℕ) (r : Reached) → AnyBits f → k ≡ code c → k ≡ codeFix f → n ≡ sizeCode (codeFix f)
-    → ((o : Order) (d : Fix) → AnyBits d → n ≡ size d → r ≡ reachedOf (baseR o (fix d) b off)) → r ≡ reachedOf (baseR o c b off)
-as-number o b off f c n k r any e g s h = rw (same-code c (fix f) (sym e ∙ g)) (h o f any (size-is f n s))
+-- an answer for every number of n bytes is one for the number that a code turned out to be
+module _ (o : Order) (b : List ℕ) (off : ℕ) (c : Base) (n k : ℕ) (r : Reached) (coded : k ≡ code c)
+    (all : (o : Order) (d : Fix) → AnyBits d → n ≡ size d → r ≡ reachedOf (baseR o (fix d) b off)) where
+  pub as-number : (f : Fix) → AnyBits f → n ≡ size f → k ≡ codeFix f → r ≡ reachedOf (baseR o c b off)
+  as-number f any e g = rw (same-code c (fix f) (sym coded ∙ g)) (all o f any e)

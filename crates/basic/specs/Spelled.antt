@@ -18,14 +18,14 @@ spelledR o = here >>= λ p. readSig o >>= λ s. accept (parse s) p
 
 -- how many they are, and the place after them
 abbrev pub speltOf : Res (List Ty) → Spelt
-speltOf (got ts e) = Types (length ts) e
+speltOf (got ts e) = Types (length ts) (record { 0 = e })
 speltOf (fault x) = Misspelt x
 
 -- a variant's type
 unfoldable pub variantTypeR : Order → R Ty
 variantTypeR o = here >>= λ p. spelledR o >>= λ ts. single ts p
 
--- where a variant's signature begins and ends: between the byte that says how long it is and the zero after it
+-- where a variant's signature begins, and how long it is: it lies between the byte that says how long it is and the zero after it
 abbrev pub innerOf : ℕ → Res Ty → Opened
-innerOf off (got t e) = Inside (off + 1) (e - 1)
+innerOf off (got t e) = Inside (record { 0 = off + 1 }) (record { 0 = e - 1 - (off + 1) })
 innerOf off (fault x) = Shut x

@@ -84,6 +84,7 @@ fn number(buf: &[u8], end: usize, off: usize, size: usize) -> Reached
 }
 
 // A basic value, by the code of its type. Where the code is known the table is read at one place, which the compiler does once and for all.
+// `h` stands alone: with its neighbour `i` it would be a range, which is tested before every other code.
 pub fn base(order: Order, k: u8, buf: &[u8], end: usize, off: usize) -> Reached
     requires { ⌜ BaseCode k ⌝ }
     requires { ⌜ Window (now buf) end off ⌝ }
@@ -91,14 +92,10 @@ pub fn base(order: Order, k: u8, buf: &[u8], end: usize, off: usize) -> Reached
 {
     match k {
         b'y' => number(buf, end, off, types::size(b'y')),
-        b'n' => number(buf, end, off, types::size(b'n')),
-        b'q' => number(buf, end, off, types::size(b'q')),
-        b'i' => number(buf, end, off, types::size(b'i')),
-        b'u' => number(buf, end, off, types::size(b'u')),
-        b'x' => number(buf, end, off, types::size(b'x')),
-        b't' => number(buf, end, off, types::size(b't')),
-        b'd' => number(buf, end, off, types::size(b'd')),
+        b'n' | b'q' => number(buf, end, off, types::size(b'q')),
+        b'i' | b'u' => number(buf, end, off, types::size(b'u')),
         b'h' => number(buf, end, off, types::size(b'h')),
+        b'x' | b't' | b'd' => number(buf, end, off, types::size(b't')),
         _ => tested(order, k, buf, end, off),
     }
 }

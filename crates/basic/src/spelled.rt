@@ -7,21 +7,22 @@ ghost use Rattle.util.specs.Entry.{Window};
 ghost use Rattle.basic.specs.Spelled.{spelledR, speltOf, variantTypeR, innerOf};
 use meaning::Counted;
 use meaning::Fault;
+use meaning::Length;
 use meaning::Order;
 use meaning::Place;
 use meaning::Reached;
 use meaning::Refusal;
 use text::strings;
 
-// Where something inside the bytes begins and ends.
+// Where something inside the bytes begins, and how long it is.
 pub enum Opened {
-    Inside(usize, usize),
+    Inside(Place, Length),
     Shut(Refusal),
 }
 
 // A signature among the bytes: how many types it spells, and the place after it.
 pub enum Spelt {
-    Types(usize, usize),
+    Types(usize, Place),
     Refused(Refusal),
 }
 
@@ -36,11 +37,8 @@ fn spelled_types(buf: &[u8], end: usize, off: usize) -> Spelt
             let first = off + 1;
             let stop = next - 1;
             match signature::parse_description(&buf[first..stop]) {
-                Counted::Types(n) => Spelt::Types(n, next),
-                Counted::Refused(refusal) => {
-                    let fault = refusal.fault;
-                    Spelt::Refused(meaning::refuse(fault, off))
-                }
+                Counted::Types(n) => Spelt::Types(n, Place(next)),
+                Counted::Refused(refusal) => Spelt::Refused(meaning::moved(refusal, off)),
             }
         }
         Reached::Refused(refusal) => Spelt::Refused(refusal),
@@ -53,12 +51,12 @@ pub fn signature_value(buf: &[u8], end: usize, off: usize) -> Reached
     ensures { λ r. ⌜ ((o : Order) → r ≡ reachedOf (readG o (take end (now (buf .entry))) off)) ⌝ }
 {
     match spelled_types(buf, end, off) {
-        Spelt::Types(_, next) => Reached::At(Place(next)),
+        Spelt::Types(_, next) => Reached::At(next),
         Spelt::Refused(refusal) => Reached::Refused(refusal),
     }
 }
 
-// The signature of the variant at `off`, which is to spell one type: where it begins and ends.
+// The signature of the variant at `off`, which is to spell one type: where it begins, and how long it is.
 pub fn inner(buf: &[u8], end: usize, off: usize) -> Opened
     requires { ⌜ Window (now buf) end off ⌝ }
     ensures { λ r. ⌜ ((o : Order) → r ≡ innerOf off (variantTypeR o (take end (now (buf .entry))) off)) ⌝ }
@@ -66,7 +64,9 @@ pub fn inner(buf: &[u8], end: usize, off: usize) -> Opened
     match spelled_types(buf, end, off) {
         Spelt::Types(n, next) => {
             if n == 1 {
-                Opened::Inside(off + 1, next - 1)
+                let first = off + 1;
+                let stop = next.0 - 1;
+                Opened::Inside(Place(first), Length(stop - first))
             } else if n == 0 {
                 Opened::Shut(meaning::refuse(Fault::EmptySignature, off))
             } else {

@@ -7,7 +7,7 @@ use lib.Dec.{leb}
 use Rattle.meaning.specs.Reader.{Res, got, fault, R, ret, _>>=_, _>>_, check, many}
 use Rattle.meaning.specs.Message.{Field, complete, needed, every, knownCodes}
 use Rattle.meaning.specs.ReadMessage.{fieldR}
-use Rattle.meaning.specs.Header.{entry}
+use Rattle.meaning.specs.Header.{fieldsBy, fieldsFrom}
 use Rattle.meaning.specs.declared.Order.{Order}
 use Rattle.meaning.specs.declared.MessageType.{MessageType}
 use Rattle.meaning.specs.declared.Entry.{Entry}
@@ -15,7 +15,7 @@ use Rattle.meaning.specs.declared.Entry.the-variants.{Absent}
 use Rattle.meaning.specs.declared.Fields.{Fields}
 use Rattle.meaning.specs.declared.Fault.the-variants.{InvalidHeaderFields}
 use Rattle.header.specs.declared.header_fields.TableRead.{TableRead}
-use Rattle.header.specs.declared.header_fields.TableRead.the-variants.{Read as Tabled, Refused as NoTable}
+use Rattle.header.specs.declared.header_fields.TableRead.the-variants as tableRead
 
 -- of two entries for one code the first is kept
 abbrev pub firstOf : ℕ → Entry → Entry → Entry
@@ -35,32 +35,8 @@ fieldsR o k n = many n (fieldR o) >>= λ fs. check (complete k fs) InvalidHeader
 
 -- the nine entries of a list by their codes
 abbrev pub byCode : List Entry → Fields
-byCode es = record {
-  object = getD es 1 Absent;
-  interface = getD es 2 Absent;
-  member = getD es 3 Absent;
-  «error_name» = getD es 4 Absent;
-  «response_serial» = getD es 5 Absent;
-  destination = getD es 6 Absent;
-  sender = getD es 7 Absent;
-  signature = getD es 8 Absent;
-  «num_fds» = getD es 9 Absent;
-}
-
--- the nine entries of fields that begin at off
-abbrev pub fieldsFrom : Order → List Field → ℕ → Fields
-fieldsFrom o fs off = record {
-  object = entry o 1 fs off;
-  interface = entry o 2 fs off;
-  member = entry o 3 fs off;
-  «error_name» = entry o 4 fs off;
-  «response_serial» = entry o 5 fs off;
-  destination = entry o 6 fs off;
-  sender = entry o 7 fs off;
-  signature = entry o 8 fs off;
-  «num_fds» = entry o 9 fs off;
-}
+byCode es = fieldsBy (λ c. getD es c Absent)
 
 abbrev pub tableTo : Order → ℕ → Res (List Field) → TableRead
-tableTo o off (got fs e) = Tabled (fieldsFrom o fs off)
-tableTo o off (fault x) = NoTable x
+tableTo o off (got fs e) = tableRead.Read (fieldsFrom o fs off)
+tableTo o off (fault x) = tableRead.Refused x

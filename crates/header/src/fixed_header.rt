@@ -3,6 +3,7 @@ ghost use mathlib.Core.Path.{_≡_};
 ghost use Rattle.meaning.specs.ReadMessage.{isMark, orderOf, isKind, kindOf, fixedR};
 ghost use Rattle.header.specs.FixedHeader.{beganOf};
 use meaning::Fault;
+use meaning::Length;
 use meaning::MessageType;
 use meaning::Order;
 use meaning::Refusal;
@@ -15,7 +16,7 @@ pub struct Start {
     pub flags: u8,
     pub version: u8,
     pub serial: u32,
-    pub body: usize,
+    pub body: Length,
 }
 
 pub enum Began {
@@ -71,7 +72,7 @@ pub fn fixed(buf: &[u8]) -> Began
                 flags: buf[2],
                 version: buf[3],
                 serial: integers::load32(order, buf, 8) as u32,
-                body: integers::load32(order, buf, 4) as usize,
+                body: Length(integers::load32(order, buf, 4) as usize),
             })
         } else {
             Began::Refused(meaning::refuse(Fault::InvalidMessageType, 0))

@@ -1,13 +1,15 @@
 // One header field (unmarshal.rs): document 01, port order 5.
 ghost use mathlib.Core.Path.{_≡_};
 ghost use lib.ListN.{take};
-ghost use Rattle.meaning.specs.Types.{Base};
-ghost use Rattle.meaning.specs.ReadValue.{baseR, read, readVar};
+ghost use Prim.Native.Nat.{ℕ};
+ghost use Rattle.meaning.specs.Types.{Base, base, Raw};
+ghost use Rattle.meaning.specs.ReadValue.{baseR, andR, read, readVar};
 ghost use Rattle.meaning.specs.Message.{exactly, wants};
 ghost use Rattle.meaning.specs.Signature.{code as codeOf};
-ghost use Rattle.meaning.specs.ReadMessage.{andR, typeR, fieldR};
+ghost use Rattle.meaning.specs.ReadMessage.{typeR, fieldR};
+ghost use Rattle.meaning.specs.Header.{entryAs};
 ghost use Rattle.util.specs.Entry.{Window};
-ghost use Rattle.header.specs.HeaderField.{OneIs, Known, knownTo, contentTo, fieldTo};
+ghost use Rattle.header.specs.HeaderField.{OneIs, Known, Stands, Stood, readAs, knownTo, contentTo, fieldTo};
 use basic::spelled::Opened;
 use meaning::Counted;
 use meaning::Entry;
@@ -20,15 +22,23 @@ use meaning::Refusal;
 use text::strings;
 use util::integers;
 use validate_raw::walk;
+use validate_raw::walk::Left;
+use validate_raw::walk::Spot;
 use validate_raw::walk::Walked;
 
 // A header field that was read: the place after it, its code, or 0 for a code that is not known, and what the header keeps of it.
+pub struct FieldEntry {
+    pub next: Place,
+    pub code: usize,
+    pub entry: Entry,
+}
+
 pub enum FieldRead {
-    Read(usize, usize, Entry),
+    Read(FieldEntry),
     Refused(Refusal),
 }
 
-// The signature of a header field at `off`, which is to spell one type: where it begins and ends.
+// The signature of a header field at `off`, which is to spell one type: where it begins, and how long it is.
 fn one_type(buf: &[u8], end: usize, off: usize) -> Opened
     requires { ⌜ Window (now buf) end off ⌝ }
     ensures { λ r. ⌜ ((o : Order) → OneIs r o (now (buf .entry)) end off) ⌝ }
@@ -41,7 +51,7 @@ fn one_type(buf: &[u8], end: usize, off: usize) -> Opened
             match signature::parse_description(&buf[first..stop]) {
                 Counted::Types(n) => {
                     if n == 1 {
-                        Opened::Inside(first, stop)
+                        Opened::Inside(Place(first), Length(stop - first))
                     } else {
                         Opened::Shut(meaning::refuse(Fault::NoSignature, 0))
                     }
@@ -70,6 +80,33 @@ fn asked(code: u8) -> u8
     }
 }
 
+// What the header keeps of a known field's value, which stands from `at` to `next`.
+fn entry_of(order: Order, k: u8, buf: &[u8], at: usize, next: usize) -> Entry
+    requires { ⌜ Stood order k (now buf) at next ⌝ }
+    ensures { λ r. ⌜ ((end c : ℕ) (b : Base) (v : Raw b) → Stands order k (now (buf .entry)) at next end c b v → r ≡ entryAs next (base b, v)) ⌝ }
+{
+    if k == b'u' {
+        Entry::Number(integers::load32(order, buf, at) as u32)
+    } else if k == b'g' {
+        let first = at + 1;
+        Entry::Text(Place(first), Length(next - 1 - first))
+    } else {
+        let first = at + 4;
+        Entry::Text(Place(first), Length(next - 1 - first))
+    }
+}
+
+// A field that ends at `next`.
+fn kept(code: u8, next: usize, entry: Entry) -> FieldRead
+    ensures { λ r. ⌜ r ≡ readAs next code entry ⌝ }
+{
+    FieldRead::Read(FieldEntry {
+        next: Place(next),
+        code: code as usize,
+        entry,
+    })
+}
+
 // The value of a known field, by the code of its type.
 fn known(order: Order, code: u8, k: u8, buf: &[u8], end: usize, off: usize) -> FieldRead
     requires { ⌜ Known code k ⌝ }
@@ -82,18 +119,7 @@ fn known(order: Order, code: u8, k: u8, buf: &[u8], end: usize, off: usize) -> F
             match basic::bare(order, k, buf, end, at) {
                 Reached::At(past) => {
                     let next = past.0;
-                    if k == b'u' {
-                        let number = integers::load32(order, buf, at) as u32;
-                        FieldRead::Read(next, code as usize, Entry::Number(number))
-                    } else if k == b'g' {
-                        let first = at + 1;
-                        let entry = Entry::Text(Place(first), Length(next - 1 - first));
-                        FieldRead::Read(next, code as usize, entry)
-                    } else {
-                        let first = at + 4;
-                        let entry = Entry::Text(Place(first), Length(next - 1 - first));
-                        FieldRead::Read(next, code as usize, entry)
-                    }
+                    kept(code, next, entry_of(order, k, buf, at, next))
                 }
                 Reached::Refused(refusal) => FieldRead::Refused(refusal),
             }
@@ -108,7 +134,9 @@ fn content(order: Order, code: u8, buf: &[u8], end: usize, off: usize) -> FieldR
     ensures { λ r. ⌜ r ≡ contentTo code (andR (typeR order code) (λ t. read order (readVar order 15) t) (take end (now (buf .entry))) off) ⌝ }
 {
     match one_type(buf, end, off) {
-        Opened::Inside(first, stop) => {
+        Opened::Inside(place, length) => {
+            let first = place.0;
+            let stop = first + length.0;
             if code == 0 {
                 FieldRead::Refused(meaning::refuse(Fault::InvalidHeaderField, 0))
             } else if code < 10 {
@@ -119,8 +147,15 @@ fn content(order: Order, code: u8, buf: &[u8], end: usize, off: usize) -> FieldR
                     FieldRead::Refused(meaning::refuse(Fault::WrongSignature, 0))
                 }
             } else {
-                match walk::value(order, &buf[first..stop], 0, buf, end, stop + 1, 15) {
-                    Walked::Past(_, next) => FieldRead::Read(next, 0, Entry::Absent),
+                let at = Spot {
+                    sig: Place(0),
+                    buf: Place(stop + 1),
+                };
+                match walk::value(order, &buf[first..stop], buf, end, at, Left { levels: 15 }) {
+                    Walked::Past(past) => {
+                        let next = past.buf.0;
+                        kept(0, next, Entry::Absent)
+                    }
                     Walked::Refused(refusal) => FieldRead::Refused(refusal),
                 }
             }
@@ -134,7 +169,7 @@ pub fn unmarshal_header_field(order: Order, buf: &[u8], end: usize, off: usize) 
     requires { ⌜ Window (now buf) end off ⌝ }
     ensures { λ r. ⌜ r ≡ fieldTo (fieldR order (take end (now (buf .entry))) off) ⌝ }
 {
-    match util::padded(buf, end, off, 8) {
+    match util::padded(buf, end, off, types::align(b'(')) {
         Reached::At(place) => {
             let at = place.0;
             if end <= at {

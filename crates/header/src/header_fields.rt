@@ -103,11 +103,14 @@ pub fn unmarshal_header_fields(
     let mut at = first;
     while at < end {
         match header_field::unmarshal_header_field(order, buf, end, at) {
-            FieldRead::Read(next, code, entry) => {
+            FieldRead::Read(field) => {
+                let code = field.code;
+                let entry = field.entry;
+                let next = field.next;
                 let count = counts[code];
                 entries[code] = first_of(count, entries[code], entry);
                 counts[code] = count + 1;
-                at = next;
+                at = next.0;
             }
             FieldRead::Refused(refusal) => {
                 return TableRead::Refused(refusal);

@@ -1,16 +1,14 @@
 // The bytes around a place, sixteen a row, with the byte at the place in brackets.
 ghost use Prim.Native.Nat.{_≤_};
 ghost use lib.ListN.{length};
+use crate::Out;
 use crate::fill::byte;
 use crate::fill::fill;
+use crate::shown::each;
 use std::num::wrapping_add_u64;
 
 // No byte of a row is at the place.
 const NONE: usize = 17;
-
-pub(crate) fn is_plain(b: u8) -> bool {
-    if b < b' ' { false } else { b < 127 }
-}
 
 // What stands before the cell `k` of a row whose cell `mark` is in brackets.
 fn lead(k: usize, mark: usize) -> u8
@@ -28,7 +26,7 @@ fn lead(k: usize, mark: usize) -> u8
 }
 
 // A byte in two digits; past the end there is none.
-fn cell(out: &mut [u8], at: usize, row: &[u8], k: usize) -> usize {
+fn cell(out: &mut Out, at: usize, row: &[u8], k: usize) -> usize {
     if k < row.len() {
         let end = k + 1;
         return text_out::put_bytes(out, at, &row[k..end]);
@@ -36,7 +34,8 @@ fn cell(out: &mut [u8], at: usize, row: &[u8], k: usize) -> usize {
     text_out::put(out, at, b"  ")
 }
 
-fn cells(out: &mut [u8], at: usize, row: &[u8], mark: usize) -> usize {
+// Sixteen cells, and a blank behind them.
+fn cells(out: &mut Out, at: usize, row: &[u8], mark: usize) -> usize {
     let mut behind = at;
     let mut k = 0;
     while k < 16 {
@@ -44,39 +43,16 @@ fn cells(out: &mut [u8], at: usize, row: &[u8], mark: usize) -> usize {
         behind = cell(out, digits, row, k);
         k += 1;
     }
-    byte(out, behind, lead(16, mark))
+    let end = [lead(16, mark), b' '];
+    text_out::put(out, behind, &end)
 }
 
-// A byte as a letter, or a dot if it is none.
-fn letter(b: u8) -> u8 {
-    if is_plain(b) { b } else { b'.' }
-}
-
-fn letters(out: &mut [u8], at: usize, row: &[u8]) -> usize {
-    let mut behind = at;
-    let mut k = 0;
-    while k < row.len() {
-        if k == 16 {
-            return behind;
-        }
-        behind = byte(out, behind, letter(row[k]));
-        k += 1;
-    }
-    behind
-}
-
-// Where a row begins in the message and in the stream.
-fn places(out: &mut [u8], at: usize, from: u64, first: u64) -> usize {
-    let numbers = [from, wrapping_add_u64(first, from)];
-    fill(out, at, b">> ", &numbers)
-}
-
-// A row: its places, its bytes, and its letters.
-fn row(out: &mut [u8], at: usize, bytes: &[u8], from: usize, first: u64, mark: usize) -> usize {
-    let begun = places(out, at, from as u64, first);
-    let end = cells(out, begun, bytes, mark);
-    let gap = byte(out, end, b' ');
-    let all = letters(out, gap, bytes);
+// A row: where it begins in the message and in the stream, its bytes, and its letters.
+fn row(out: &mut Out, at: usize, bytes: &[u8], from: usize, first: u64, mark: usize) -> usize {
+    let numbers = [from as u64, wrapping_add_u64(first, from as u64)];
+    let begun = fill(out, at, b">> ", &numbers);
+    let gap = cells(out, begun, bytes, mark);
+    let all = each(out, gap, question_lines::first(bytes, 16), true);
     byte(out, all, b'\n')
 }
 
@@ -90,7 +66,7 @@ fn in_row(from: usize, mark: usize) -> usize {
 
 // Up to `most` rows from `start` on, as far as `last`.
 fn rows(
-    out: &mut [u8],
+    out: &mut Out,
     at: usize,
     message: &[u8],
     first: u64,
@@ -138,7 +114,7 @@ fn last_of(size: usize, mark: usize) -> usize
 
 // The rows around the byte at `place` of a message that begins at the byte `first` of the stream. A fault at the place 0 may lie anywhere in
 // the head, so more of that is shown.
-pub(crate) fn place(out: &mut [u8], at: usize, message: &[u8], first: u64, place: usize) -> usize {
+pub(crate) fn place(out: &mut Out, at: usize, message: &[u8], first: u64, place: usize) -> usize {
     let mark = least(place, message.len());
     let last = last_of(message.len(), mark);
     let titled = text_out::put(out, at, b"   message    stream\n");

@@ -1,5 +1,6 @@
 // Texts by templates: one call for a line, so that what is printed stands in the code as it is printed.
 ghost use Prim.Native.Nat.{_≤_};
+use crate::Out;
 use crate::words;
 
 // The last of the first `k` numbers; 0 where there is none.
@@ -28,12 +29,12 @@ fn takes(mark: u8) -> usize
     }
 }
 
-pub(crate) fn byte(out: &mut [u8], at: usize, b: u8) -> usize {
+pub(crate) fn byte(out: &mut Out, at: usize, b: u8) -> usize {
     let one = [b];
     text_out::put(out, at, &one)
 }
 
-fn blank(out: &mut [u8], at: usize, there: bool) -> usize {
+fn blank(out: &mut Out, at: usize, there: bool) -> usize {
     if there {
         return byte(out, at, b' ');
     }
@@ -41,7 +42,7 @@ fn blank(out: &mut [u8], at: usize, there: bool) -> usize {
 }
 
 // A number with blanks before it, up to ten places.
-fn right(out: &mut [u8], at: usize, n: u64) -> usize {
+fn right(out: &mut Out, at: usize, n: u64) -> usize {
     let mut behind = at;
     let mut power: u64 = 1_000_000_000;
     while 1 < power {
@@ -52,7 +53,7 @@ fn right(out: &mut [u8], at: usize, n: u64) -> usize {
 }
 
 // An s, unless there is one.
-fn plural(out: &mut [u8], at: usize, n: u64) -> usize {
+fn plural(out: &mut Out, at: usize, n: u64) -> usize {
     if n == 1 {
         return at;
     }
@@ -60,7 +61,7 @@ fn plural(out: &mut [u8], at: usize, n: u64) -> usize {
 }
 
 // What a byte of a template stands for, after the number `n`.
-fn piece(out: &mut [u8], at: usize, mark: u8, n: u64) -> usize {
+fn piece(out: &mut Out, at: usize, mark: u8, n: u64) -> usize {
     if mark == b'#' {
         text_out::put_number(out, at, n)
     } else if mark == b'>' {
@@ -76,7 +77,7 @@ fn piece(out: &mut [u8], at: usize, mark: u8, n: u64) -> usize {
 
 // Puts a template's text: # stands for the next number, > for the next with blanks before it up to ten places, @ for the word that it is the
 // number of, % for an s unless the number before is 1, and any other byte for itself.
-pub(crate) fn fill(out: &mut [u8], at: usize, template: &[u8], numbers: &[u64]) -> usize {
+pub(crate) fn fill(out: &mut Out, at: usize, template: &[u8], numbers: &[u64]) -> usize {
     let mut behind = at;
     let mut i = 0;
     let mut k = 0;

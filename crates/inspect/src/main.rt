@@ -2,7 +2,9 @@
 // is refused why and where. After a refusal nothing vouches for where the next message begins, so it stops there, and says so.
 mod dump;
 mod fill;
+mod refusals;
 mod says;
+mod shown;
 mod words;
 
 ghost use Prim.Native.Nat.{_≤_};
@@ -20,10 +22,11 @@ const INPUT: usize = 6291456;
 // Room for what is said of any message.
 const OUTPUT: usize = 32768;
 
-fn flush(out: &[u8], at: usize) {
-    if at <= out.len() {
-        io::write_all(STDOUT_FILENO, &out[..at]);
-    }
+// An array with its length in its type, so that nothing has to count its elements.
+pub(crate) type Out = [u8; OUTPUT];
+
+fn flush(out: &Out, at: usize) {
+    io::write_all(STDOUT_FILENO, question_lines::first(out, at));
 }
 
 // How many bytes a message took, 0 if none did; and whether a message was refused.
@@ -33,7 +36,7 @@ struct Step {
 }
 
 // A whole message: its bytes are taken.
-fn taken(rest: &[u8], first: u64, count: u64, out: &mut [u8], header: Header) -> Step
+fn taken(rest: &[u8], first: u64, count: u64, out: &mut Out, header: Header) -> Step
     requires { ⌜ header .length .0 ≤ length (now rest) ⌝ }
     ensures { λ r. ⌜ r .taken ≤ length (now (rest .entry)) ⌝ }
 {
@@ -48,10 +51,10 @@ fn taken(rest: &[u8], first: u64, count: u64, out: &mut [u8], header: Header) ->
 }
 
 // A refused message, shown as far as it states and as it is there: nothing is taken.
-fn refused(rest: &[u8], first: u64, count: u64, out: &mut [u8], refusal: Refusal) -> Step
+fn refused(rest: &[u8], first: u64, count: u64, out: &mut Out, refusal: Refusal) -> Step
     ensures { λ r. ⌜ r .taken ≤ 0 ⌝ }
 {
-    let stated = says::part(rest, 0, stream::stated_size(rest));
+    let stated = question_lines::first(rest, stream::stated_size(rest));
     let headed = says::head(out, 0, count, first);
     let end = says::refused(out, headed, first, stated, refusal);
     flush(out, end);
@@ -62,7 +65,7 @@ fn refused(rest: &[u8], first: u64, count: u64, out: &mut [u8], refusal: Refusal
 }
 
 // Prints the message that `rest` begins with, at the byte `first` of the stream.
-fn message(rest: &[u8], first: u64, count: u64, out: &mut [u8]) -> Step
+fn message(rest: &[u8], first: u64, count: u64, out: &mut Out) -> Step
     ensures { λ r. ⌜ r .taken ≤ length (now (rest .entry)) ⌝ }
 {
     match stream::next_message(rest) {
@@ -83,7 +86,7 @@ struct Passed {
 }
 
 // Prints the messages that the first `n` bytes of `input`, at the byte `first` of the stream, begin with.
-fn pass(input: &[u8], n: usize, first: u64, before: u64, out: &mut [u8]) -> Passed
+fn pass(input: &[u8], n: usize, first: u64, before: u64, out: &mut Out) -> Passed
     requires { ⌜ n ≤ length (now input) ⌝ }
     ensures { λ r. ⌜ r .start ≤ n ⌝ }
 {
@@ -116,17 +119,6 @@ struct Stand {
     more: bool,
 }
 
-fn move_down(s: &mut [u8], from: usize, to: usize)
-    requires { ⌜ (from ≤ to) × (to ≤ length (now s)) ⌝ }
-{
-    let count = to - from;
-    let mut i = 0;
-    while i < count {
-        s[i] = s[from + i];
-        i += 1;
-    }
-}
-
 // How many bytes follow in the stream. Nothing says that it ends, so the turns are counted.
 fn drain(input: &mut [u8]) -> u64 {
     let mut sum: u64 = 0;
@@ -143,14 +135,14 @@ fn drain(input: &mut [u8]) -> u64 {
 }
 
 // The last lines, where the stream ends after `there` bytes of a message that states `size`.
-fn cut_off(first: u64, count: u64, there: u64, size: u64, out: &mut [u8]) {
+fn cut_off(first: u64, count: u64, there: u64, size: u64, out: &mut Out) {
     let at = says::cut(out, 0, wrapping_add_u64(count, 1), first, there, size);
     let behind = says::ended(out, at, count, first, there);
     flush(out, behind);
 }
 
 // The last lines, where the stream ends with `rest` of a message.
-fn at_end(rest: &[u8], first: u64, count: u64, out: &mut [u8]) {
+fn at_end(rest: &[u8], first: u64, count: u64, out: &mut Out) {
     if rest.len() == 0 {
         let end = says::ended(out, 0, count, first, 0);
         return flush(out, end);
@@ -167,13 +159,13 @@ fn warn(got: isize) {
 }
 
 // The last line, where the program stops with `left` bytes of the stream from the byte `first` on.
-fn stop(first: u64, count: u64, left: u64, out: &mut [u8], at: usize) {
+fn stop(first: u64, count: u64, left: u64, out: &mut Out, at: usize) {
     let behind = says::stopped(out, at, count, first, left);
     flush(out, behind);
 }
 
 // The last lines at a message that states more than the buffer of `room` bytes holds. It is too large only if the stream has all of it.
-fn beyond(first: u64, count: u64, size: u64, left: u64, room: u64, out: &mut [u8]) {
+fn beyond(first: u64, count: u64, size: u64, left: u64, room: u64, out: &mut Out) {
     if left < size {
         return cut_off(first, count, left, size, out);
     }
@@ -200,7 +192,7 @@ fn halt(
     held: usize,
     size: usize,
     input: &mut [u8],
-    out: &mut [u8],
+    out: &mut Out,
 ) {
     let room = input.len() as u64;
     let left = wrapping_add_u64(held as u64, drain(input));
@@ -216,7 +208,7 @@ fn keep(input: &mut [u8], start: usize, n: usize)
     requires { ⌜ (start ≤ n) × (n ≤ length (now input)) ⌝ }
 {
     if start != 0 {
-        move_down(input, start, n);
+        question_lines::move_down(input, start, n);
     }
 }
 
@@ -226,7 +218,7 @@ fn is_last(refused: bool, size: usize, room: usize) -> bool {
 }
 
 // What follows the messages among the first `n` bytes of the buffer: a refusal, a message that is too large, or the rest of one that goes on.
-fn after(passed: Passed, first: u64, n: usize, input: &mut [u8], out: &mut [u8]) -> Stand
+fn after(passed: Passed, first: u64, n: usize, input: &mut [u8], out: &mut Out) -> Stand
     requires { ⌜ (passed .start ≤ n) × (n ≤ length (now input)) ⌝ }
     ensures { λ r. ⌜ r .held ≤ length (now (input .exit)) ⌝ }
 {
@@ -249,7 +241,7 @@ fn after(passed: Passed, first: u64, n: usize, input: &mut [u8], out: &mut [u8])
 }
 
 // The stream ends, or a read fails, with `rest` of a message.
-fn over(rest: &[u8], got: isize, first: u64, count: u64, out: &mut [u8]) -> Stand
+fn over(rest: &[u8], got: isize, first: u64, count: u64, out: &mut Out) -> Stand
     ensures { λ r. ⌜ r .held ≤ 0 ⌝ }
 {
     at_end(rest, first, count, out);
@@ -257,7 +249,7 @@ fn over(rest: &[u8], got: isize, first: u64, count: u64, out: &mut [u8]) -> Stan
     finished(first, count)
 }
 
-fn go_on(n: usize, first: u64, count: u64, input: &mut [u8], out: &mut [u8]) -> Stand
+fn go_on(n: usize, first: u64, count: u64, input: &mut [u8], out: &mut Out) -> Stand
     requires { ⌜ n ≤ length (now input) ⌝ }
     ensures { λ r. ⌜ r .held ≤ length (now (input .exit)) ⌝ }
 {
@@ -266,7 +258,7 @@ fn go_on(n: usize, first: u64, count: u64, input: &mut [u8], out: &mut [u8]) -> 
 }
 
 // Reads once, so that messages are shown as they come, and prints what is whole by then.
-fn turn(last: Stand, input: &mut [u8], out: &mut [u8]) -> Stand
+fn turn(last: Stand, input: &mut [u8], out: &mut Out) -> Stand
     requires { ⌜ last .held ≤ length (now input) ⌝ }
     ensures { λ r. ⌜ r .held ≤ length (now (input .exit)) ⌝ }
 {
@@ -280,7 +272,7 @@ fn turn(last: Stand, input: &mut [u8], out: &mut [u8]) -> Stand
     go_on(n, last.first, last.count, input, out)
 }
 
-fn run(input: &mut [u8], out: &mut [u8]) {
+fn run(input: &mut [u8], out: &mut Out) {
     let mut stand = Stand {
         held: 0,
         first: 0,
@@ -298,8 +290,7 @@ fn run(input: &mut [u8], out: &mut [u8]) {
     }
 }
 
-// Arrays whose lengths are in their types, so that nothing has to count their elements.
-fn with_buffers(input: &mut [u8; INPUT], out: &mut [u8; OUTPUT]) {
+fn with_buffers(input: &mut [u8; INPUT], out: &mut Out) {
     run(input, out);
 }
 

@@ -1,7 +1,9 @@
 // What is printed of a message, of a refusal and at the end: each function puts text into the output and says where the next byte goes.
+use crate::Out;
 use crate::dump;
 use crate::fill::byte;
 use crate::fill::fill;
+use crate::shown::each;
 use crate::words;
 use meaning::Entry;
 use meaning::Fields;
@@ -12,7 +14,7 @@ use meaning::Refusal;
 const SHOWN: usize = 200;
 
 // `count` bytes from `first` on, as far as there are any.
-pub(crate) fn part(s: &[u8], first: usize, count: usize) -> &[u8] {
+fn part(s: &[u8], first: usize, count: usize) -> &[u8] {
     let all = s.len();
     if all < first {
         return &s[all..];
@@ -24,31 +26,9 @@ pub(crate) fn part(s: &[u8], first: usize, count: usize) -> &[u8] {
     &s[first..end]
 }
 
-// A byte that a terminal shows as itself, or \x and two digits.
-fn safe(out: &mut [u8], at: usize, b: u8) -> usize {
-    if dump::is_plain(b) {
-        if b != b'\\' {
-            return byte(out, at, b);
-        }
-    }
-    let one = [b];
-    let behind = text_out::put(out, at, b"\\x");
-    text_out::put_bytes(out, behind, &one)
-}
-
-fn escaped(out: &mut [u8], at: usize, s: &[u8]) -> usize {
-    let mut behind = at;
-    let mut i = 0;
-    while i < s.len() {
-        behind = safe(out, behind, s[i]);
-        i += 1;
-    }
-    behind
-}
-
 // A text, or its start and its length where it is a long one.
-fn text(out: &mut [u8], at: usize, s: &[u8]) -> usize {
-    let behind = escaped(out, at, part(s, 0, SHOWN));
+fn text(out: &mut Out, at: usize, s: &[u8]) -> usize {
+    let behind = each(out, at, question_lines::first(s, SHOWN), false);
     if s.len() <= SHOWN {
         return behind;
     }
@@ -57,25 +37,25 @@ fn text(out: &mut [u8], at: usize, s: &[u8]) -> usize {
 }
 
 // The name of a header field opens its line.
-fn named(out: &mut [u8], at: usize, code: u64) -> usize {
+fn named(out: &mut Out, at: usize, code: u64) -> usize {
     let behind = text_out::put(out, at, b"    ");
     words::field(out, behind, code)
 }
 
-fn number_field(out: &mut [u8], at: usize, code: u64, n: u64) -> usize {
+fn number_field(out: &mut Out, at: usize, code: u64, n: u64) -> usize {
     let name = named(out, at, code);
     let behind = text_out::put_number(out, name, n);
     byte(out, behind, b'\n')
 }
 
-fn text_field(out: &mut [u8], at: usize, code: u64, s: &[u8]) -> usize {
+fn text_field(out: &mut Out, at: usize, code: u64, s: &[u8]) -> usize {
     let name = named(out, at, code);
     let behind = text(out, name, s);
     byte(out, behind, b'\n')
 }
 
 // A header field with its name; nothing where it is absent.
-fn field(out: &mut [u8], at: usize, code: u64, message: &[u8], entry: Entry) -> usize {
+fn field(out: &mut Out, at: usize, code: u64, message: &[u8], entry: Entry) -> usize {
     match entry {
         Entry::Absent => at,
         Entry::Number(n) => number_field(out, at, code, n as u64),
@@ -99,7 +79,7 @@ fn entry_of(fields: Fields, code: u64) -> Entry {
     }
 }
 
-fn fields(out: &mut [u8], at: usize, message: &[u8], all: Fields) -> usize {
+fn fields(out: &mut Out, at: usize, message: &[u8], all: Fields) -> usize {
     let mut behind = at;
     let mut code = 1;
     while code < 10 {
@@ -111,13 +91,13 @@ fn fields(out: &mut [u8], at: usize, message: &[u8], all: Fields) -> usize {
 }
 
 // Number and place of a message, which open its paragraph.
-pub(crate) fn head(out: &mut [u8], at: usize, count: u64, first: u64) -> usize {
+pub(crate) fn head(out: &mut Out, at: usize, count: u64, first: u64) -> usize {
     let numbers = [count, first];
     fill(out, at, b"message # at byte #: ", &numbers)
 }
 
 // A number that most messages have; it is said where it is another.
-fn unusual(out: &mut [u8], at: usize, template: &[u8], n: u8, usual: u8) -> usize {
+fn unusual(out: &mut Out, at: usize, template: &[u8], n: u8, usual: u8) -> usize {
     if n == usual {
         return at;
     }
@@ -126,7 +106,7 @@ fn unusual(out: &mut [u8], at: usize, template: &[u8], n: u8, usual: u8) -> usiz
 }
 
 // What a message is, how long, and its serial.
-fn form(out: &mut [u8], at: usize, header: Header) -> usize {
+fn form(out: &mut Out, at: usize, header: Header) -> usize {
     let kind = header.kind;
     let order = header.order;
     let length = header.length;
@@ -139,13 +119,13 @@ fn form(out: &mut [u8], at: usize, header: Header) -> usize {
     fill(out, at, b"@, @, # byte%, serial #", &numbers)
 }
 
-fn numbers(out: &mut [u8], at: usize, flags: u8, version: u8) -> usize {
+fn numbers(out: &mut Out, at: usize, flags: u8, version: u8) -> usize {
     let second = unusual(out, at, b", flags #", flags, 0);
     let third = unusual(out, second, b", version #", version, 1);
     byte(out, third, b'\n')
 }
 
-fn body(out: &mut [u8], at: usize, size: u64, place: u64) -> usize {
+fn body(out: &mut Out, at: usize, size: u64, place: u64) -> usize {
     if size == 0 {
         return text_out::put(out, at, b"    body          empty\n");
     }
@@ -159,7 +139,7 @@ fn body(out: &mut [u8], at: usize, size: u64, place: u64) -> usize {
 }
 
 // A message by its header, without number and place; `message` begins with it.
-pub(crate) fn whole(out: &mut [u8], at: usize, message: &[u8], header: Header) -> usize {
+pub(crate) fn whole(out: &mut Out, at: usize, message: &[u8], header: Header) -> usize {
     let all = header.fields;
     let place = header.body;
     let size = header.body_length;
@@ -170,27 +150,28 @@ pub(crate) fn whole(out: &mut [u8], at: usize, message: &[u8], header: Header) -
 }
 
 // Where a refusal stands. Faults before the body's values all have the position 0.
-fn position(out: &mut [u8], at: usize, place: u64, first: u64) -> usize {
+fn position(out: &mut Out, at: usize, place: u64, first: u64) -> usize {
+    if place == 0 {
+        let numbers = [first];
+        return fill(
+            out,
+            at,
+            b"    position 0 in the message, byte # of the stream (every fault before the body has position 0)\n",
+            &numbers,
+        );
+    }
     let numbers = [place, std::num::wrapping_add_u64(first, place)];
-    let behind = fill(
+    fill(
         out,
         at,
-        b"    position # in the message, byte # of the stream",
+        b"    position # in the message, byte # of the stream\n",
         &numbers,
-    );
-    if place != 0 {
-        return byte(out, behind, b'\n');
-    }
-    text_out::put(
-        out,
-        behind,
-        b" (every fault before the body has position 0)\n",
     )
 }
 
 // A refusal without the message's number and place; `message` is what is there of the message.
 pub(crate) fn refused(
-    out: &mut [u8],
+    out: &mut Out,
     at: usize,
     first: u64,
     message: &[u8],
@@ -207,52 +188,45 @@ pub(crate) fn refused(
 
 // A message of which `there` bytes are there, and the stream ends; its size is 16 while that is not stated.
 pub(crate) fn cut(
-    out: &mut [u8],
+    out: &mut Out,
     at: usize,
     count: u64,
     first: u64,
     there: u64,
     size: u64,
 ) -> usize {
-    let opened = head(out, at, count, first);
-    let numbers = [there, size, words::of_cut(there)];
+    let numbers = [count, first, there, size, words::of_cut(there)];
     fill(
         out,
-        opened,
-        b"CUT OFF\n    the stream ends after # byte% of the # @\n",
+        at,
+        b"message # at byte #: CUT OFF\n    the stream ends after # byte% of the # @\n",
         &numbers,
     )
 }
 
 // A message that the buffer of `room` bytes does not hold.
 pub(crate) fn too_large(
-    out: &mut [u8],
+    out: &mut Out,
     at: usize,
     count: u64,
     first: u64,
     size: u64,
     room: u64,
 ) -> usize {
-    let opened = head(out, at, count, first);
-    let numbers = [size, room];
+    let numbers = [count, first, size, room];
     fill(
         out,
-        opened,
-        b"TOO LARGE FOR THIS PROGRAM\n    its first 16 bytes state # byte%, and this program holds messages of up to # byte%\n",
+        at,
+        b"message # at byte #: TOO LARGE FOR THIS PROGRAM\n    its first 16 bytes state # byte%, and this program holds messages of up to # byte%\n",
         &numbers,
     )
 }
 
-// The stream ends where its last message ends.
-fn all(out: &mut [u8], at: usize, count: u64, first: u64) -> usize {
-    let numbers = [count, first, words::of_end(count)];
-    fill(out, at, b"# message% in # byte%; @\n", &numbers)
-}
-
 // The last line, which opens with what was accepted: the stream ends, `rest` bytes into a message.
-pub(crate) fn ended(out: &mut [u8], at: usize, count: u64, first: u64, rest: u64) -> usize {
+pub(crate) fn ended(out: &mut Out, at: usize, count: u64, first: u64, rest: u64) -> usize {
     if rest == 0 {
-        return all(out, at, count, first);
+        let numbers = [count, first, words::of_end(count)];
+        return fill(out, at, b"# message% in # byte%; @\n", &numbers);
     }
     let numbers = [count, first, rest];
     fill(
@@ -264,7 +238,7 @@ pub(crate) fn ended(out: &mut [u8], at: usize, count: u64, first: u64, rest: u64
 }
 
 // The program stops at the byte `first`, with `left` bytes of the stream from there on.
-pub(crate) fn stopped(out: &mut [u8], at: usize, count: u64, first: u64, left: u64) -> usize {
+pub(crate) fn stopped(out: &mut Out, at: usize, count: u64, first: u64, left: u64) -> usize {
     let numbers = [count, first, first, left];
     fill(
         out,

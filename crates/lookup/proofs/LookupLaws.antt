@@ -1,10 +1,10 @@
 -- The lookup by the ways through the code: a header, an entry for the code, and the part of the message that it says.
-use Prim.Native.Nat.{ℕ, _+_, _-_, _≤_}
+use Prim.Native.Nat.{ℕ, _+_, _-_, _≤_, _<_}
 use native.Mathlib.Omega.{arith}
 use mathlib.Core.Bool.{Bool, true, false, _||_}
 use mathlib.Core.List.{List}
 use mathlib.Core.Path.{_≡_, refl, ap, sym, subst, _∙_}
-use lib.ListN.{length, take, drop}
+use lib.ListN.{length, take, drop, getD}
 use lib.Dec.{eqb, T, eqb→eq}
 use Rattle.meaning.specs.declared.Order.{Order}
 use Rattle.meaning.specs.declared.Refusal.{Refusal}
@@ -17,10 +17,10 @@ use Rattle.meaning.specs.Message.{Field, text, Message, table}
 use Rattle.meaning.specs.Reader.{Res, got, fault}
 use Rattle.meaning.specs.ReadMessage.{readMessage}
 use Rattle.meaning.specs.Header.{entry, headerOf, headerFrom, readHeader, holdsText, lookup}
-use Rattle.meaning.proofs.NumberLaws.{Bytes}
+use Rattle.meaning.proofs.NumberLaws.{Bytes, bytes-of}
 use Rattle.meaning.proofs.MessageLocal.{readMessage-local}
 use Rattle.meaning.proofs.MessageMeets.{message-sound, message-opens}
-use Rattle.header.specs.HeaderFields.{fieldsFrom}
+use Rattle.meaning.specs.Header.{fieldsFrom}
 use Rattle.lookup.specs.Found.{textAt, foundIn}
 use Rattle.unmarshal.specs.Body.{cutOf}
 use Rattle.unmarshal.proofs.body.TextLaws.{Before, before-more, text-is}
@@ -66,17 +66,23 @@ module _ (b : List ℕ) (c : ℕ) (d : List ℕ) where
   accepted : Bytes b → (m : Message) (n : ℕ) → readMessage b 0 ≡ got m n → Looked b c d (textAt c (headerOf m n .fields))
   unfolding lookup
   accepted y m n r =
+      let ord : Order = m .fixed .order in
+      let stop : ℕ = 12 + length (table ord (m .fields) 12) in
       let s = message-sound b y m n r in
       let o = message-opens b m n (s .0) (s .1) in
-      let t = each-at b (m .fixed .order) (m .fields) (12 + length (table (m .fixed .order) (m .fields) 12)) (o .0 .second) in
+      let t = each-at b ord (m .fields) stop (o .0 .second) in
       let l = readMessage-local .bound b 0 m n (omega arith) r .1 in
-      let i = text-is b (m .fixed .order) d c (m .fields) 16 (12 + length (table (m .fixed .order) (m .fields) 12)) t in
-      let near : 12 + length (table (m .fixed .order) (m .fields) 12) ≤ length b = omega (arith, o .0 .third .end, o .1 .end) in
-      decide (i .0) (before-more b (12 + length (table (m .fixed .order) (m .fields) 12)) (length b) (entry (m .fixed .order) c (m .fields) 16) near (i .1)) (holdsText c) (textAt c (headerOf m n .fields)) refl (chosen (m .fixed .order) (m .fields) c)
+      let i = text-is b ord d c (m .fields) 16 stop t in
+      let near : stop ≤ length b = omega (arith, o .0 .third .end, o .1 .end) in
+      let before : Before (length b) (entry ord c (m .fields) 16) = before-more b stop (length b) (entry ord c (m .fields) 16) near (i .1) in
+      decide (i .0) before (holdsText c) (textAt c (headerOf m n .fields)) refl (chosen ord (m .fields) c)
     where
       decide : text d c (m .fields) ≡ cutOf d b (entry (m .fixed .order) c (m .fields) 16) → Before (length b) (entry (m .fixed .order) c (m .fields) 16)
           → (a : Bool) (e : Entry) → holdsText c ≡ a → Chosen (m .fixed .order) (m .fields) c a e → Looked b c d e
-      decide i j true e z (is u) = record { cut = (let v : lookup b c d ≡ text d c (m .fields) = rw (z, lookup, r) in v) ∙ i ∙ sym (ap (cutOf d b) u); within = subst (Before (length b)) (sym u) j }
+      decide i j true e z (is u) = record {
+        cut = (let v : lookup b c d ≡ text d c (m .fields) = rw (z, lookup, r) in v) ∙ i ∙ sym (ap (cutOf d b) u);
+        within = subst (Before (length b)) (sym u) j;
+      }
       decide i j false e z isnt = record { cut = (let v : lookup b c d ≡ d = rw (z, lookup) in v); within = tt }
 
   -- the entry that is found stands for what the lookup answers
@@ -88,9 +94,9 @@ module _ (b : List ℕ) (c : ℕ) (d : List ℕ) where
       go (got m n) z = accepted y m n z
       go (fault v) z = refused v z
 
-  module _ (y : Bytes b) (e : Entry) (finds : e ≡ foundIn (readHeader b) c) where
+  module _ (small : (i : ℕ) → getD b i 0 < 256) (e : Entry) (finds : e ≡ foundIn (readHeader b) c) where
     here : Looked b c d e
-    here = subst (Looked b c d) (sym finds) (found-is y)
+    here = subst (Looked b c d) (sym finds) (found-is (bytes-of b small))
 
     pub look-text : (p : Place) (l : Length) → e ≡ Text p l → (p .0 + l .0 ≤ length b) × (take (p .0 + l .0 - p .0) (drop (p .0) b) ≡ lookup b c d)
     look-text p l g =

@@ -139,7 +139,8 @@ module _ (o : Order) (w : ℕ) (test : List ℕ → Bool) where
       let q2 : (bytes (length v + 1) off >>= λ s. tail7 off (length v) s) b m ≡ tail7 off (length v) s b e
       = bytes-bind (length v + 1) off (λ s. tail7 off (length v) s) b m s e sl (sp .1) l in
       let q3 : tail7 off (length v) s b e ≡ got (take (length v) s) e
-      = check-bind (utf8 (take (length v) s)) InvalidUtf8 off (λ z. check (test (take (length v) s)) StringContainsNullByte off >> (check (zeros (drop (length v) s)) MissingTerminator off >> ret (take (length v) s))) b e (rw tk (k .0))
+      = check-bind (utf8 (take (length v) s)) InvalidUtf8 off
+      (λ z. check (test (take (length v) s)) StringContainsNullByte off >> (check (zeros (drop (length v) s)) MissingTerminator off >> ret (take (length v) s))) b e (rw tk (k .0))
       ∙ check-bind (test (take (length v) s)) StringContainsNullByte off (λ z. check (zeros (drop (length v) s)) MissingTerminator off >> ret (take (length v) s)) b e (rw tk (k .1))
       ∙ check-bind (zeros (drop (length v) s)) MissingTerminator off (λ z. ret (take (length v) s)) b e (rw dk tt) in
       q1 ∙ ap (λ (z : ℕ). (bytes (z + 1) off >>= λ s. tail7 off z s) b m) ld ∙ q2 ∙ q3 ∙ ap (λ (z : List ℕ). got z e) tk

@@ -12,9 +12,9 @@ use Rattle.meaning.specs.Types.{Fix, Base, fix, str, path, sig, Ty, base
 use Rattle.meaning.specs.Signature.{parse}
 use Rattle.meaning.specs.Number.{load, zeros}
 use Rattle.meaning.specs.Text.{utf8, noZero, isPath}
-use Rattle.meaning.specs.ReadValue.{any, valid, padding, readFix, sizedR, readText, readPath, readSig, accept, readG, bareR, baseR, elements, lengthR, countedR, arrayR, pairR, read, reads, single, readVar}
-use Rattle.meaning.proofs.Local.{Local, bind-local, bind-inv, bytes-inv, ret-local, here-local, fail-local, check-local, bytes-local}
-use Rattle.meaning.proofs.ValueLocal.{padding-local, sizedR-local, readText-local, readSig-local, accept-local, single-local, bareR-local, baseR-local, lengthR-local, contents-local, countedR-local, pairR-local, read-local, reads-local, readVar-local}
+use Rattle.meaning.specs.ReadValue.{any, valid, padding, readFix, sizedR, readText, readPath, readSig, accept, readG, bareR, baseR, elements, lengthR, contentsOf, arrayOf, arrayR, pairR, read, reads, single, variantOf, readVar}
+use Rattle.meaning.proofs.Local.{Local, Bounded, Full, bind-local, bind-inv, bytes-inv, ret-local, here-local, fail-local, check-local, bytes-local}
+use Rattle.meaning.proofs.ValueLocal.{padding-local, sizedR-local, readText-local, readSig-local, accept-local, single-local, bareR-local, baseR-local, elements-bounded, elements-full, lengthR-local, contents-local, pairR-local, read-local, reads-local, readVar-local}
 use Rattle.meaning.proofs.ValueMeets.{ne-size}
 
 abbrev pub Grows : {A : Type 0} → R A → Type 0
@@ -80,10 +80,14 @@ unfolding lengthR
 length-grows o = then-grows here (λ p. bytes 4 p >>= λ l. ret (load o l)) here-local
     (λ p. first-grows (bytes 4 p) (λ l. ret (load o l)) (bytes-local 4 p) (bytes-grows 4 p (omega arith)) (λ l. ret-local (load o l)))
 
+arrayOf-grows : {A : Type 0} (o : Order) (a : ℕ) (c : ℕ → R A) → ((n : ℕ) → Bounded (c n)) → ((n : ℕ) → Full (c n)) → Grows (arrayOf o a c)
+unfolding arrayOf
+arrayOf-grows o a c bc fc = then-grows (padding 4) (λ z. lengthR o >>= λ n. contentsOf a c n) (padding-local 4)
+    (λ z. first-grows (lengthR o) (λ n. contentsOf a c n) (lengthR-local o) (length-grows o) (λ n. contents-local o a c bc fc n))
+
 pub array-grows : {A : Type 0} (o : Order) (a w : ℕ) (r : R A) → Local r → Grows (arrayR o a w r)
-unfolding arrayR countedR
-array-grows o a w r lr = then-grows (padding 4) (λ z. countedR o a w r) (padding-local 4)
-    (λ z. first-grows (lengthR o) (λ n. ahead n (padding a >> within n (elements n w r))) (lengthR-local o) (length-grows o) (λ n. contents-local a n w r lr))
+unfolding arrayR
+array-grows o a w r lr = arrayOf-grows o a (λ n. elements n w r) (λ n. elements-bounded n w r lr) (λ n. elements-full n w r lr)
 
 pub pair-grows : {A B : Type 0} (r : R A) (s : R B) → Local r → Grows r → Local s → Grows (pairR r s)
 unfolding pairR
@@ -110,14 +114,16 @@ module _ (o : Order) {W : Type 0} (readW : R W) (lw : Local readW) (gw : Grows r
     reads-grows (one e) = read-grows e
     reads-grows (more e fs) = pair-grows (read o readW e) (reads o readW fs) (read-local o readW lw e) (read-grows e) (reads-local o readW lw fs)
 
-abbrev rest : (o : Order) (n p : ℕ) → List ℕ → R (Var (suc n))
-rest o n p s = accept (parse s) p >>= λ ts. single ts p >>= λ e. read o (readVar o n) e >>= λ v. ret (e, v)
+-- the head of a variant takes a byte at least, whatever it holds
+variantOf-grows : {B : Ty → Type 0} (o : Order) (c : (e : Ty) → R (B e)) → ((e : Ty) → Local (c e)) → Grows (variantOf o c)
+unfolding variantOf
+variantOf-grows {B} o c lc = then-grows here (λ p. readSig o >>= rest p) here-local
+    (λ p. first-grows (readSig o) (rest p) (readSig-local o) (sig-grows o) (λ s. search (local, accept-local, single-local, lc) depth 20))
+  where
+    rest : ℕ → List ℕ → R ((e : Ty) × B e)
+    rest p s = accept (parse s) p >>= λ ts. single ts p >>= λ e. c e >>= λ v. ret (e, v)
 
 pub var-grows : (o : Order) (n : ℕ) → Grows (readVar o n)
 unfolding readVar
-var-grows o zero = then-grows here (λ p. fail VariantTooDeep p) here-local (λ p b off v e h k. refuses p b off v e k)
-  where
-    refuses : (p : ℕ) (b : List ℕ) (off : ℕ) (v : Var zero) (e : ℕ) → fail VariantTooDeep p b off ≡ got v e → off < e
-    refuses p b off v e k = absurd v
-var-grows o (suc n) = then-grows here (λ p. readSig o >>= rest o n p) here-local
-    (λ p. first-grows (readSig o) (rest o n p) (readSig-local o) (sig-grows o) (λ s. search (local, accept-local, single-local, read-local o (readVar o n) (readVar-local o n)) depth 20))
+var-grows o zero = then-grows here (λ p. fail VariantTooDeep p) here-local (λ p b off v e h k. absurd v)
+var-grows o (suc n) = variantOf-grows o (λ e. read o (readVar o n) e) (read-local o (readVar o n) (readVar-local o n))

@@ -1,4 +1,5 @@
 pub mod Booleans
+pub mod Bases
 pub mod BaseMeets
 pub mod Local
 pub mod Meets
@@ -20,3 +21,5 @@ pub mod Rules
 pub mod Grows
 pub mod Loop
 pub mod OneAnswer
+pub mod Promises
+pub mod Framing

@@ -7,10 +7,10 @@ use mathlib.Core.Path.{_≡_, refl, ap, sym, subst, _∙_}
 use lib.ListN.{length, take, drop, length-append, length-take, take-append-drop}
 use lib.Seq.{take-append-le, drop-append-le, length-take-le}
 use lib.Dec.{leb, eqb, T, leb→le, nleb→lt}
-use Rattle.meaning.specs.Reader.{Res, got, fault, stop, R, after, ret, here, fail, _>>=_, check, bytes, ahead, within, many}
+use Rattle.meaning.specs.Reader.{Res, got, fault, stop, R, after, ret, here, fail, _>>=_, check, bytes, ahead, window, within, many}
 use Rattle.meaning.specs.declared.Refusal.{Refusal}
 use Rattle.meaning.specs.declared.Fault.the-variants.{NotEnoughBytes, NotEnoughBytesForCollection}
-use Rattle.meaning.specs.Faults.{numberOf}
+use Rattle.meaning.specs.Faults.{isShort}
 use Rattle.meaning.specs.declared.Fault.{Fault}
 
 pub data Cmp (m n : ℕ) : Type 0 where
@@ -48,7 +48,7 @@ leb-false m n h = go (cmp m n)
 
 abbrev pub short : {A : Type 0} → Res A → Bool
 short (got v e) = false
-short (fault x) = eqb (numberOf (x .fault)) 2 || eqb (numberOf (x .fault)) 3
+short (fault x) = isShort (x .fault)
 
 -- up: a final answer stays when bytes are added. down: an answer that ends inside a first part is that part's answer too
 pub record Local {A : Type 0} (r : R A) : Type 0 where
@@ -174,14 +174,6 @@ pub ahead-no : {A : Type 0} (n : ℕ) (r : R A) (b : List ℕ) (off : ℕ) → l
 unfolding ahead
 ahead-no n r b off h = rw (leb-false (off + n) (length b) h, ahead)
 
-pub within-yes : {A : Type 0} (n : ℕ) (r : R A) (b : List ℕ) (off : ℕ) → off + n ≤ length b → within n r b off ≡ r (take (off + n) b) off
-unfolding within
-within-yes n r b off h = rw (leb-true (off + n) (length b) h, within)
-
-pub within-no : {A : Type 0} (n : ℕ) (r : R A) (b : List ℕ) (off : ℕ) → length b < off + n → within n r b off ≡ stop NotEnoughBytesForCollection off
-unfolding within
-within-no n r b off h = rw (leb-false (off + n) (length b) h, within)
-
 pub le-append : (b c : List ℕ) {n : ℕ} → n ≤ length b → n ≤ length (b ++ c)
 le-append b c h = rw length-append (omega arith)
 
@@ -258,48 +250,73 @@ Bounded {A} r = (b : List ℕ) (off : ℕ) (v : A) (e : ℕ) → off ≤ length 
 abbrev pub Full : {A : Type 0} → R A → Type 0
 Full {A} r = (b : List ℕ) (off : ℕ) (v : A) (e : ℕ) → off ≤ length b → r b off ≡ got v e → length b ≤ e
 
-pub within-inv : {A : Type 0} (n : ℕ) (r : R A) (b : List ℕ) (off : ℕ) (v : A) (e : ℕ) → within n r b off ≡ got v e
-    → (off + n ≤ length b) × (r (take (off + n) b) off ≡ got v e)
-within-inv {A} n r b off v e k = go (cmp (off + n) (length b))
-  where
-    go : Cmp (off + n) (length b) → (off + n ≤ length b) × (r (take (off + n) b) off ≡ got v e)
-    go (isLe t l) = (l, sym (within-yes n r b off l) ∙ k)
-    go (isGt t l) = let h1 = within-no n r b off l in absurd (let z : _≡_ {A = ℕ} 0 1 = cc in omega arith)
+-- a window, whatever its refusal: what it reads, and that it refuses
+module _ {A : Type 0} (k : Fault) (at : ℕ → ℕ) (n : ℕ) (r : R A) where
+  pub window-yes : (b : List ℕ) (off : ℕ) → off + n ≤ length b → window k at n r b off ≡ r (take (off + n) b) off
+  unfolding window
+  window-yes b off h = rw (leb-true (off + n) (length b) h, window)
 
-pub within-got : {A : Type 0} (n : ℕ) (r : R A) (b : List ℕ) (off : ℕ) (v : A) (e : ℕ) → off + n ≤ length b → r (take (off + n) b) off ≡ got v e → within n r b off ≡ got v e
-within-got n r b off v e l k = within-yes n r b off l ∙ k
+  pub window-no : (b : List ℕ) (off : ℕ) → length b < off + n → window k at n r b off ≡ stop k (at off)
+  unfolding window
+  window-no b off h = rw (leb-false (off + n) (length b) h, window)
 
--- an accepted part is the whole part
-pub within-end : {A : Type 0} (n : ℕ) (r : R A) → Bounded r → Full r → (b : List ℕ) (off : ℕ) (v : A) (e : ℕ) → within n r b off ≡ got v e → e ≡ off + n
-within-end n r lr fr b off v e k =
-    let i = within-inv n r b off v e k in
-    let t : length (take (off + n) b) ≡ off + n = length-take-le (off + n) b (i .0) in
-    let o : off ≤ length (take (off + n) b) = rw t (omega arith) in
-    let f = fr (take (off + n) b) off v e o (i .1) in
-    let g = lr (take (off + n) b) off v e o (i .1) in
-    omega arith
+  pub window-inv : (b : List ℕ) (off : ℕ) (v : A) (e : ℕ) → window k at n r b off ≡ got v e
+      → (off + n ≤ length b) × (r (take (off + n) b) off ≡ got v e)
+  window-inv b off v e q = go (cmp (off + n) (length b))
+    where
+      go : Cmp (off + n) (length b) → (off + n ≤ length b) × (r (take (off + n) b) off ≡ got v e)
+      go (isLe t l) = (l, sym (window-yes b off l) ∙ q)
+      go (isGt t l) = let h1 = window-no b off l in absurd (let z : _≡_ {A = ℕ} 0 1 = cc in omega arith)
 
-pub within-local : {A : Type 0} (n : ℕ) (r : R A) → Bounded r → Full r → Local (within n r)
-within-local {A} n r lr fr = record { up = up′; bound = bound′; down = down′ }
-  where
-    up′ : (b c : List ℕ) (off : ℕ) → off ≤ length b → short (within n r b off) ≡ false → within n r (b ++ c) off ≡ within n r b off
-    up′ b c off h s = go (cmp (off + n) (length b))
-      where
-        go : Cmp (off + n) (length b) → within n r (b ++ c) off ≡ within n r b off
-        go (isLe t l) = within-yes n r (b ++ c) off (le-append b c l) ∙ ap (λ (x : List ℕ). r x off) (take-append-le (off + n) b c l) ∙ sym (within-yes n r b off l)
-        go (isGt t l) = both _ (ap short (within-no n r b off l)) s
+  pub window-got : (b : List ℕ) (off : ℕ) (v : A) (e : ℕ) → off + n ≤ length b → r (take (off + n) b) off ≡ got v e
+      → window k at n r b off ≡ got v e
+  window-got b off v e l q = window-yes b off l ∙ q
 
-    bound′ : (b : List ℕ) (off : ℕ) (v : A) (e : ℕ) → off ≤ length b → within n r b off ≡ got v e → (off ≤ e) × (e ≤ length b)
-    bound′ b off v e h k =
-        let i = within-inv n r b off v e k in
-        let j = within-end n r lr fr b off v e k in
+  module _ (br : Bounded r) (fr : Full r) where
+    -- an accepted part is the whole part
+    pub window-end : (b : List ℕ) (off : ℕ) (v : A) (e : ℕ) → window k at n r b off ≡ got v e → e ≡ off + n
+    window-end b off v e q =
+        let i = window-inv b off v e q in
+        let t : length (take (off + n) b) ≡ off + n = length-take-le (off + n) b (i .0) in
+        let o : off ≤ length (take (off + n) b) = rw t (omega arith) in
+        let f = fr (take (off + n) b) off v e o (i .1) in
+        let g = br (take (off + n) b) off v e o (i .1) in
         omega arith
 
-    down′ : (b c : List ℕ) (off : ℕ) (v : A) (e : ℕ) → off ≤ length b → within n r (b ++ c) off ≡ got v e → e ≤ length b → within n r b off ≡ got v e
-    down′ b c off v e h k l =
-        let j = within-end n r lr fr (b ++ c) off v e k in
-        let l1 : off + n ≤ length b = omega arith in
-        within-yes n r b off l1 ∙ ap (λ (x : List ℕ). r x off) (sym (take-append-le (off + n) b c l1)) ∙ within-inv n r (b ++ c) off v e k .1
+    -- a window that refuses as too short is local, whatever stands in it
+    pub window-local : isShort k ≡ true → Local (window k at n r)
+    window-local z = record { up = up′; bound = bound′; down = down′ }
+      where
+        up′ : (b c : List ℕ) (off : ℕ) → off ≤ length b → short (window k at n r b off) ≡ false
+            → window k at n r (b ++ c) off ≡ window k at n r b off
+        up′ b c off h s = go (cmp (off + n) (length b))
+          where
+            go : Cmp (off + n) (length b) → window k at n r (b ++ c) off ≡ window k at n r b off
+            go (isLe t l) =
+                window-yes (b ++ c) off (le-append b c l) ∙ ap (λ (x : List ℕ). r x off) (take-append-le (off + n) b c l)
+                ∙ sym (window-yes b off l)
+            go (isGt t l) = both _ (ap short (window-no b off l) ∙ z) s
+
+        bound′ : (b : List ℕ) (off : ℕ) (v : A) (e : ℕ) → off ≤ length b → window k at n r b off ≡ got v e → (off ≤ e) × (e ≤ length b)
+        bound′ b off v e h q =
+            let i = window-inv b off v e q in
+            let j = window-end b off v e q in
+            omega arith
+
+        down′ : (b c : List ℕ) (off : ℕ) (v : A) (e : ℕ) → off ≤ length b → window k at n r (b ++ c) off ≡ got v e → e ≤ length b
+            → window k at n r b off ≡ got v e
+        down′ b c off v e h q l =
+            let j = window-end (b ++ c) off v e q in
+            let l1 : off + n ≤ length b = omega arith in
+            window-got b off v e l1
+            (ap (λ (x : List ℕ). r x off) (sym (take-append-le (off + n) b c l1)) ∙ window-inv (b ++ c) off v e q .1)
+
+-- the two windows that there are
+pub within-yes : {A : Type 0} (n : ℕ) (r : R A) (b : List ℕ) (off : ℕ) → off + n ≤ length b → within n r b off ≡ r (take (off + n) b) off
+within-yes n r b off h = window-yes NotEnoughBytesForCollection (λ p. p) n r b off h
+
+pub within-no : {A : Type 0} (n : ℕ) (r : R A) (b : List ℕ) (off : ℕ) → length b < off + n → within n r b off ≡ stop NotEnoughBytesForCollection off
+within-no n r b off h = window-no NotEnoughBytesForCollection (λ p. p) n r b off h
 
 pub bind-bounded : {A B : Type 0} (r : R A) (f : A → R B) → Bounded r → ((v : A) → Bounded (f v)) → Bounded (r >>= f)
 bind-bounded r f br bf b off w e h k =

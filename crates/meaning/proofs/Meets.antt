@@ -4,20 +4,21 @@ use native.Mathlib.Omega.{arith}
 use native.Mathlib.Nat.{add-assoc, add-zero}
 use mathlib.Core.Bool.{Bool, true, false, _&&_}
 use mathlib.Core.List.{List, [], _∷_, _++_, append-assoc, append-nil, append-cancel-right}
-use Rattle.meaning.proofs.ValueLocal.{elements-bounded, elements-full}
+use Rattle.meaning.proofs.ValueLocal.{padding-local, elements-bounded, elements-full}
 use mathlib.Core.Path.{_≡_, refl, ap, sym, subst, _∙_}
 use lib.ListN.{length, take, drop, length-append, length-take, length-drop, length-replicate, take-append-drop, replicate}
 use lib.Seq.{take-append-le, drop-append-le, length-take-le, take-append-seam, drop-append-seam, drop-drop, drop-length, take-all}
 use lib.Dec.{leb, ltb, eqb, T, leb→le, ltb→lt, lt→ltb, le→leb, eqb→eq, eqb-refl, lit≤}
 use Rattle.meaning.specs.Reader.{Res, got, fault, R, after, ret, here, fail, _>>=_, _>>_, check, bytes, ahead, within, many}
-use Rattle.meaning.proofs.Local.{Local, Bounded, Full, bind-inv, bind-got, bytes-inv, bytes-yes, within-inv, within-got, within-end, ahead-yes, ahead-inv, round, many-inv, Looped, ended, again, many-end, many-round, ret-inv, cmp, Cmp, isLe, isGt}
+use Rattle.meaning.proofs.Local.{Local, Bounded, Full, bind-inv, bind-got, bind-fault, bytes-inv, bytes-yes, window-inv, window-got, window-end, ahead-yes, ahead-inv, round, many-inv, Looped, ended, again, many-end, many-round, ret-inv, cmp, Cmp, isLe, isGt}
 use Rattle.meaning.specs.Number.{store, load, gap, zeros}
 use Rattle.meaning.proofs.NumberLaws.{Bytes, bytes-take, bytes-drop, length-store, load-store, store-load, load-lt}
-use Rattle.meaning.specs.Value.{Layout, _▹_, pad, raw, each, counted, Cond, okPad, okThen, Each, first, OkLength, okCounted}
-use Rattle.meaning.specs.ReadValue.{at4, padding, pairR, elements, lengthR, countedR, arrayR}
+use Rattle.meaning.specs.Value.{Layout, _▹_, pad, raw, each, counted, Cond, okPad, okThen, Each, first, OkLength, okContents}
+use Rattle.meaning.specs.ReadValue.{at4, padding, pairR, elements, lengthR, contentsOf, arrayOf}
 use Rattle.meaning.specs.declared.Fault.the-variants.{NotEnoughBytes, PaddingContainedData}
 use Rattle.meaning.specs.declared.Order.{Order}
 use Rattle.meaning.specs.declared.Fault.{Fault}
+use Rattle.meaning.specs.declared.Refusal.{Refusal}
 use Rattle.meaning.proofs.Booleans.{and-left, and-right}
 
 -- the bytes xs stand at off and end at e
@@ -70,6 +71,12 @@ pub check-bind-inv : {B : Type 0} (a : Bool) (k : Fault) (p : ℕ) (f : Unit {0}
 unfolding check _>>=_
 check-bind-inv true k p f b off v e h = (tt, h)
 check-bind-inv false k p f b off v e h = absurd (let z : _≡_ {A = ℕ} 0 1 = cc in omega arith)
+
+-- a check that fails, and what would have followed
+pub check-stop : {B : Type 0} (a : Bool) (x : Refusal) (f : Unit {0} → R B) (b : List ℕ) (off : ℕ) → a ≡ false
+    → (check a (x .fault) (x .place .0) >>= f) b off ≡ fault x
+unfolding check
+check-stop a x f b off h = bind-fault (check a (x .fault) (x .place .0)) f b off x (rw (h, check))
 
 pub check-inv : (a : Bool) (k : Fault) (p : ℕ) (b : List ℕ) (off : ℕ) (v : Unit {0}) (e : ℕ) → check a k p b off ≡ got v e → T a × (off ≡ e)
 unfolding check
@@ -295,81 +302,114 @@ lengths o = record {
   complete = λ b off n e k t l. length-complete o b off n e k t l;
 }
 
--- counted arrays
-module _ {A : Type 0} (o : Order) (a w : ℕ) (r : R A) (f : A → Layout) (k : A → Cond) (h : Meets r f k) (lr : Local r)
-    (ne : (v : A) (off : ℕ) → 1 ≤ length (f v off)) (wh : (vs : List A) (off : ℕ) → length (each f vs (first a off)) % w ≡ 0) where
-  -- after the length field n, which ends at m
-  body-sound : (b : List ℕ) → Bytes b → (m n : ℕ) (vs : List A) (e : ℕ) → m ≤ length b → ahead n (padding a >> within n (elements n w r)) b m ≡ got vs e
-      → Each f k vs (m + gap a m) × (length (each f vs (m + gap a m)) ≡ n) × At b m ((pad a ▹ each f vs) m) e
-  unfolding elements
-  body-sound b y m n vs e l q =
-      let j = ahead-inv n (padding a >> within n (elements n w r)) b m vs e q in
-      let p = bind-inv (padding a) (λ z. within n (elements n w r)) b m vs e (j .1) in
-      let pa = padding-sound a b m (p .0) (p .1) (p .2) in
-      let t = within-inv n (elements n w r) b (p .1) vs e (p .3) in
-      let en : e ≡ p .1 + n = within-end n (elements n w r) (elements-bounded n w r lr) (elements-full n w r lr) b (p .1) vs e (p .3) in
-      let c : List ℕ = take (p .1 + n) b in
-      let g = check-bind-inv (eqb (n % w) 0) NotEnoughBytes (p .1) (λ z. many n r) c (p .1) vs e (sym (here-bind (λ z. check (eqb (n % w) 0) NotEnoughBytes z >> many n r) c (p .1)) ∙ t .1) in
-      let cl : length c ≡ p .1 + n = length-take-le (p .1 + n) b (t .0) in
-      let s = many-sound r f k h (lr .bound) n c (bytes-take (p .1 + n) b y) (p .1) vs e (rw cl (omega arith)) (g .1) in
-      let s1 : At b (p .1) (each f vs (p .1)) e = at-widen b (p .1) (p .1 + n) (each f vs (p .1)) e (t .0) (omega arith) en (s .1) in
-      let fi : p .1 ≡ m + gap a m = pa .end ∙ ap (λ (z : ℕ). m + z) (length-pad a m) in
-      let len : length (each f vs (p .1)) ≡ n = omega (arith, s1 .end) in
-      (subst (Each f k vs) fi (s .0), subst (λ (z : ℕ). length (each f vs z) ≡ n) fi len, at-then b m (pad a) (each f vs) (p .1) e pa s1)
+-- what may stand in an array: c n reads n bytes whole, and accepts there exactly the layouts of its good values
+pub record Fills {A : Type 0} (a : ℕ) (c : ℕ → R A) (f : A → Layout) (k : A → Cond) : Type 0 where
+  pub bounded : (n : ℕ) → Bounded (c n)
+  pub full : (n : ℕ) → Full (c n)
+  pub sound : (n : ℕ) (b : List ℕ) → Bytes b → (off : ℕ) (v : A) (e : ℕ) → off ≤ length b → c n b off ≡ got v e
+      → k v off × At b off (f v off) e
+  pub complete : (b : List ℕ) (p : ℕ) (v : A) (e : ℕ) → k v (first a p) → At b (first a p) (f v (first a p)) e → e ≡ length b
+      → c (length (f v (first a p))) b (first a p) ≡ got v e
 
-  counted-sound : (b : List ℕ) → Bytes b → (off : ℕ) (vs : List A) (e : ℕ) → off ≤ length b → countedR o a w r b off ≡ got vs e
-      → okCounted a f k vs off × At b off (counted o a (each f vs) off) e
-  unfolding countedR counted
-  counted-sound b y off vs e l q = go (bind-inv (lengthR o) (λ n. ahead n (padding a >> within n (elements n w r))) b off vs e q)
+-- the head of an array, over any such contents
+module _ {A : Type 0} (o : Order) (a : ℕ) (c : ℕ → R A) (f : A → Layout) (k : A → Cond) (h : Fills a c f k) where
+  -- after the length field n, which ends at m
+  contents-sound : (b : List ℕ) → Bytes b → (m n : ℕ) (v : A) (e : ℕ) → m ≤ length b → contentsOf a c n b m ≡ got v e
+      → k v (m + gap a m) × (length (f v (m + gap a m)) ≡ n) × At b m ((pad a ▹ f v) m) e
+  contents-sound b y m n v e l q =
+      let j = ahead-inv n (padding a >> within n (c n)) b m v e q in
+      let p = bind-inv (padding a) (λ z. within n (c n)) b m v e (j .1) in
+      let at : ℕ = p .1 in
+      let pa = padding-sound a b m (p .0) at (p .2) in
+      let t = window-inv _ _ n (c n) b at v e (p .3) in
+      let en : e ≡ at + n = window-end _ _ n (c n) (h .bounded n) (h .full n) b at v e (p .3) in
+      let cl : length (take (at + n) b) ≡ at + n = length-take-le (at + n) b (t .0) in
+      let s = h .sound n (take (at + n) b) (bytes-take (at + n) b y) at v e (rw cl (omega arith)) (t .1) in
+      let s1 : At b at (f v at) e = at-widen b at (at + n) (f v at) e (t .0) (omega arith) en (s .1) in
+      let fi : at ≡ m + gap a m = pa .end ∙ ap (λ (z : ℕ). m + z) (length-pad a m) in
+      let len : length (f v at) ≡ n = omega (arith, s1 .end) in
+      (subst (k v) fi (s .0), subst (λ (z : ℕ). length (f v z) ≡ n) fi len, at-then b m (pad a) (f v) at e pa s1)
+
+  counted-sound : (b : List ℕ) → Bytes b → (off : ℕ) (v : A) (e : ℕ) → off ≤ length b → (lengthR o >>= λ n. contentsOf a c n) b off ≡ got v e
+      → okContents a (f v) (k v) off × At b off (counted o a (f v) off) e
+  unfolding counted
+  counted-sound b y off v e l q = go (bind-inv (lengthR o) (λ n. contentsOf a c n) b off v e q)
     where
-      go : (n : ℕ) × (m : ℕ) × (lengthR o b off ≡ got n m) × (ahead n (padding a >> within n (elements n w r)) b m ≡ got vs e) → okCounted a f k vs off × At b off (counted o a (each f vs) off) e
+      go : (n : ℕ) × (m : ℕ) × (lengthR o b off ≡ got n m) × (contentsOf a c n b m ≡ got v e)
+          → okContents a (f v) (k v) off × At b off (counted o a (f v) off) e
       go i =
           let ls = length-sound o b y off (i .0) (i .1) (i .2) in
           let m4 : i .1 ≡ off + 4 = ls .1 .end ∙ ap (λ (z : ℕ). off + z) (length-store o 4 (i .0)) in
-          let bs = body-sound b y (i .1) (i .0) vs e (ls .2) (i .3) in
-          let len : i .0 ≡ length (each f vs (first a off)) = sym (bs .1) ∙ ap (λ (z : ℕ). length (each f vs (z + gap a z))) m4 in (
-            (subst (λ (z : ℕ). Each f k vs (z + gap a z)) m4 (bs .0), subst OkLength len (ls .0)),
-            at-join b off (store o 4 (length (each f vs (first a off)))) (i .1) ((pad a ▹ each f vs) (off + 4)) e
-                (subst (λ (z : ℕ). At b off (store o 4 z) (i .1)) len (ls .1)) (subst (λ (z : ℕ). At b (i .1) ((pad a ▹ each f vs) z) e) m4 (bs .2)),
+          let bs = contents-sound b y (i .1) (i .0) v e (ls .2) (i .3) in
+          let len : i .0 ≡ length (f v (first a off)) = sym (bs .1) ∙ ap (λ (z : ℕ). length (f v (z + gap a z))) m4 in (
+            (subst (λ (z : ℕ). k v (z + gap a z)) m4 (bs .0), subst OkLength len (ls .0)),
+            at-join b off (store o 4 (length (f v (first a off)))) (i .1) ((pad a ▹ f v) (off + 4)) e
+                (subst (λ (z : ℕ). At b off (store o 4 z) (i .1)) len (ls .1))
+                (subst (λ (z : ℕ). At b (i .1) ((pad a ▹ f v) z) e) m4 (bs .2)),
           )
 
-  body-complete : (b : List ℕ) (off : ℕ) (vs : List A) (e : ℕ) → Each f k vs (first a off) → At b (off + 4) ((pad a ▹ each f vs) (off + 4)) e → e ≤ length b
-      → ahead (length (each f vs (first a off))) (padding a >> within (length (each f vs (first a off))) (elements (length (each f vs (first a off))) w r)) b (off + 4) ≡ got vs e
-  unfolding elements
-  body-complete b off vs e c t l =
-      let n : ℕ = length (each f vs (first a off)) in
-      let s2 = then-at b (off + 4) (pad a) (each f vs) e t in
-      let fi : off + 4 + length (pad a (off + 4)) ≡ first a off = ap (λ (z : ℕ). off + 4 + z) (length-pad a (off + 4)) in
-      let t3 : At b (off + 4) (pad a (off + 4)) (first a off) = subst (λ (z : ℕ). At b (off + 4) (pad a (off + 4)) z) fi (s2 .0) in
-      let t4 : At b (first a off) (each f vs (first a off)) e = subst (λ (z : ℕ). At b z (each f vs z) e) fi (s2 .1) in
-      let en : e ≡ first a off + n = t4 .end in
-      let le4 : off + 4 ≤ first a off = omega (arith, t3 .end) in
-      let q2 : ahead n (padding a >> within n (elements n w r)) b (off + 4) ≡ (padding a >> within n (elements n w r)) b (off + 4) = ahead-yes n (padding a >> within n (elements n w r)) b (off + 4) (omega arith) in
-      let q3 : (padding a >> within n (elements n w r)) b (off + 4) ≡ within n (elements n w r) b (first a off)
-      = bind-got (padding a) (λ z. within n (elements n w r)) b (off + 4) tt (first a off) (padding-complete a b (off + 4) (first a off) t3 (omega arith)) in
-      let u : first a off + n ≤ length b = omega arith in
-      let cut : List ℕ = take (first a off + n) b in
-      let t5 : At b (first a off) (each f vs (first a off)) (first a off + n) = subst (λ (z : ℕ). At b (first a off) (each f vs (first a off)) z) en t4 in
-      let t6 : At cut (first a off) (each f vs (first a off)) (first a off + n) = at-narrow b (first a off) (first a off + n) (each f vs (first a off)) u t5 in
-      let q5 : elements n w r cut (first a off) ≡ many n r cut (first a off)
-      = here-bind (λ z. check (eqb (n % w) 0) NotEnoughBytes z >> many n r) cut (first a off)
-      ∙ check-bind (eqb (n % w) 0) NotEnoughBytes (first a off) (λ z. many n r) cut (first a off) (rw (wh vs off) (eqb-refl 0)) in
-      let q6 : many n r cut (first a off) ≡ got vs (first a off + n)
-      = many-complete r f k h (lr .bound) ne vs n cut (first a off) (first a off + n) c t6 (sym (length-take-le (first a off + n) b u)) (omega arith) in
-      let q4 : within n (elements n w r) b (first a off) ≡ got vs (first a off + n) = within-got n (elements n w r) b (first a off) vs (first a off + n) u (q5 ∙ q6) in
-      q2 ∙ q3 ∙ q4 ∙ ap (λ (z : ℕ). got vs z) (sym en)
+  contents-complete : (b : List ℕ) (off : ℕ) (v : A) (e : ℕ) → k v (first a off) → At b (off + 4) ((pad a ▹ f v) (off + 4)) e → e ≤ length b
+      → contentsOf a c (length (f v (first a off))) b (off + 4) ≡ got v e
+  contents-complete b off v e g t l =
+      let at : ℕ = first a off in
+      let n : ℕ = length (f v at) in
+      let s2 = then-at b (off + 4) (pad a) (f v) e t in
+      let fi : off + 4 + length (pad a (off + 4)) ≡ at = ap (λ (z : ℕ). off + 4 + z) (length-pad a (off + 4)) in
+      let t3 : At b (off + 4) (pad a (off + 4)) at = subst (λ (z : ℕ). At b (off + 4) (pad a (off + 4)) z) fi (s2 .0) in
+      let t4 : At b at (f v at) e = subst (λ (z : ℕ). At b z (f v z) e) fi (s2 .1) in
+      let en : e ≡ at + n = t4 .end in
+      let le4 : off + 4 ≤ at = omega (arith, t3 .end) in
+      let u : at + n ≤ length b = omega arith in
+      let t5 : At b at (f v at) (at + n) = subst (λ (z : ℕ). At b at (f v at) z) en t4 in
+      let t6 : At (take (at + n) b) at (f v at) (at + n) = at-narrow b at (at + n) (f v at) u t5 in
+      let w : c n (take (at + n) b) at ≡ got v (at + n) = h .complete (take (at + n) b) off v (at + n) g t6 (sym (length-take-le (at + n) b u)) in
+      ahead-yes n (padding a >> within n (c n)) b (off + 4) (omega arith)
+      ∙ bind-got (padding a) (λ z. within n (c n)) b (off + 4) tt at (padding-complete a b (off + 4) at t3 (omega arith))
+      ∙ window-got _ _ n (c n) b at v (at + n) u w ∙ ap (λ (z : ℕ). got v z) (sym en)
 
-  counted-complete : (b : List ℕ) (off : ℕ) (vs : List A) (e : ℕ) → okCounted a f k vs off → At b off (counted o a (each f vs) off) e → e ≤ length b
-      → countedR o a w r b off ≡ got vs e
-  unfolding countedR counted
-  counted-complete b off vs e c t l =
-      let n : ℕ = length (each f vs (first a off)) in
-      let sp = at-split b off (store o 4 n) ((pad a ▹ each f vs) (off + 4)) e t in
+  counted-complete : (b : List ℕ) (off : ℕ) (v : A) (e : ℕ) → okContents a (f v) (k v) off → At b off (counted o a (f v) off) e → e ≤ length b
+      → (lengthR o >>= λ n. contentsOf a c n) b off ≡ got v e
+  unfolding counted
+  counted-complete b off v e g t l =
+      let n : ℕ = length (f v (first a off)) in
+      let sp = at-split b off (store o 4 n) ((pad a ▹ f v) (off + 4)) e t in
       let m4 : off + length (store o 4 n) ≡ off + 4 = ap (λ (z : ℕ). off + z) (length-store o 4 n) in
       let t1 : At b off (store o 4 n) (off + 4) = subst (λ (z : ℕ). At b off (store o 4 n) z) m4 (sp .0) in
-      let t2 : At b (off + 4) ((pad a ▹ each f vs) (off + 4)) e = subst (λ (z : ℕ). At b z ((pad a ▹ each f vs) (off + 4)) e) m4 (sp .1) in
-      bind-got (lengthR o) (λ n. ahead n (padding a >> within n (elements n w r))) b off n (off + 4) (length-complete o b off n (off + 4) (c .1) t1 (mid-le b _ _ e t2 l))
-      ∙ body-complete b off vs e (c .0) t2 l
+      let t2 : At b (off + 4) ((pad a ▹ f v) (off + 4)) e = subst (λ (z : ℕ). At b z ((pad a ▹ f v) (off + 4)) e) m4 (sp .1) in
+      bind-got (lengthR o) (λ n. contentsOf a c n) b off n (off + 4) (length-complete o b off n (off + 4) (g .1) t1 (mid-le b _ _ e t2 l))
+      ∙ contents-complete b off v e (g .0) t2 l
 
-  pub counteds : Meets (countedR o a w r) (λ vs. counted o a (each f vs)) (okCounted a f k)
-  counteds = record { sound = counted-sound; complete = counted-complete }
+  pub headed : Meets (arrayOf o a c) (λ v. pad 4 ▹ counted o a (f v)) (λ v. okPad 4 (okContents a (f v) (k v)))
+  unfolding arrayOf
+  headed = padded 4 (lengthR o >>= λ n. contentsOf a c n) (λ v. counted o a (f v)) (λ v. okContents a (f v) (k v))
+      (record { sound = counted-sound; complete = counted-complete }) (padding-local 4 .bound)
+
+-- the elements of an array fill it
+module _ {A : Type 0} (a w : ℕ) (r : R A) (f : A → Layout) (k : A → Cond) (h : Meets r f k) (lr : Local r)
+    (ne : (v : A) (off : ℕ) → 1 ≤ length (f v off)) (wh : (vs : List A) (off : ℕ) → length (each f vs (first a off)) % w ≡ 0) where
+  abbrev tested : ℕ → ℕ → R (List A)
+  tested n p = check (eqb (n % w) 0) NotEnoughBytes p >> many n r
+
+  elements-sound : (n : ℕ) (b : List ℕ) → Bytes b → (off : ℕ) (vs : List A) (e : ℕ) → off ≤ length b → elements n w r b off ≡ got vs e
+      → Each f k vs off × At b off (each f vs off) e
+  unfolding elements
+  elements-sound n b y off vs e l q =
+      let g = check-bind-inv (eqb (n % w) 0) NotEnoughBytes off (λ z. many n r) b off vs e (sym (here-bind (tested n) b off) ∙ q) in
+      many-sound r f k h (lr .bound) n b y off vs e l (g .1)
+
+  elements-complete : (b : List ℕ) (p : ℕ) (vs : List A) (e : ℕ) → Each f k vs (first a p) → At b (first a p) (each f vs (first a p)) e → e ≡ length b
+      → elements (length (each f vs (first a p))) w r b (first a p) ≡ got vs e
+  unfolding elements
+  elements-complete b p vs e g t l =
+      let n : ℕ = length (each f vs (first a p)) in
+      here-bind (tested n) b (first a p)
+      ∙ check-bind (eqb (n % w) 0) NotEnoughBytes (first a p) (λ z. many n r) b (first a p) (rw (wh vs p) (eqb-refl 0))
+      ∙ many-complete r f k h (lr .bound) ne vs n b (first a p) e g t l (omega (arith, t .end))
+
+  pub elements-fill : Fills a (λ n. elements n w r) (λ vs. each f vs) (λ vs. Each f k vs)
+  elements-fill = record {
+    bounded = λ n. elements-bounded n w r lr;
+    full = λ n. elements-full n w r lr;
+    sound = elements-sound;
+    complete = elements-complete;
+  }

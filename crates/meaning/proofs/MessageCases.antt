@@ -5,14 +5,14 @@ use mathlib.Core.Path.{_≡_, refl}
 use lib.ListN.{replicate, take}
 use Rattle.meaning.specs.Types.{fix, u32, base, str, path, sig}
 use Rattle.meaning.specs.Value.{_▹_, pad, each, counted, sized, bare, encBase, enc, encVar, encode}
-use Rattle.meaning.specs.Reader.{got, ret, here, fail, _>>=_, check, bytes, ahead, within, many}
+use Rattle.meaning.specs.Reader.{got, ret, here, fail, _>>=_, check, bytes, ahead, window, many}
 use Rattle.meaning.specs.Signature.{spell, nest, shape, legal, find, snoc, put, putBase, step, run, allNest, parse}
 use Rattle.meaning.specs.Number.{digits, value, store, load, gap, zeros}
 use Rattle.meaning.specs.Text.{lead, scan, utf8, noZero, names, isPath}
-use Rattle.meaning.specs.ReadValue.{taken, no, padding, readFix, sizedR, readText, readPath, readSig, accept, readG, bareR, baseR, elements, lengthR, countedR, arrayR, pairR, read, single, readVar, readTop}
+use Rattle.meaning.specs.ReadValue.{taken, no, padding, readFix, sizedR, readText, readPath, readSig, accept, readG, bareR, baseR, elements, lengthR, arrayOf, arrayR, pairR, andR, read, single, variantOf, readVar, readTop}
 use Rattle.meaning.specs.Message.{wants, encField, count, complete, text, encodeAll, Fixed, Message, encFixed, table, bodyAt, frame, bodyOf, encodeMessage}
 use Rattle.meaning.specs.declared.MessageType.the-variants.{Call}
-use Rattle.meaning.specs.ReadMessage.{atZero, inside, ended, andR, fixedR, byteR, oneType, ask, typeR, fieldR, tableR, openR, valuesR, bodyR, readMessage, checkMessage}
+use Rattle.meaning.specs.ReadMessage.{atZero, ended, fixedR, byteR, oneType, ask, typeR, fieldR, tableR, openR, valuesR, bodyR, readMessage, checkMessage}
 use Rattle.meaning.specs.declared.Fault.the-variants.{NotEnoughBytes, NotEnoughBytesForCollection, PaddingContainedData, InvalidBoolean, MissingTerminator, InvalidObjectPath, WrongSignature, VariantTooDeep, InvalidByteOrder, InvalidMessageType, NoSignature, InvalidHeaderField, InvalidHeaderFields, BodyLeft}
 use Rattle.meaning.specs.declared.Order.the-variants.{Little, Big}
 use Rattle.meaning.specs.declared.Checked.{Checked}
@@ -122,7 +122,10 @@ abbrev tried : List MessageCase → List Checked
 tried cs = map (λ c. checkMessage (c .buf)) cs
 
 pub message-cases : tried messages ≡ map (λ c. c .answer) messages
-unfolding ret here fail _>>=_ check bytes ahead within many spell nest shape legal find snoc put putBase step run allNest parse digits value store load gap zeros lead scan utf8 noZero names isPath padding readFix sizedR readText readPath readSig accept readG bareR baseR elements lengthR countedR arrayR pairR read single readVar readTop wants count complete text atZero inside ended andR fixedR byteR oneType ask typeR fieldR tableR openR valuesR bodyR readMessage checkMessage
+unfolding ret here fail _>>=_ check bytes ahead window many spell nest shape legal find snoc put putBase step run allNest parse digits value store
+    load gap zeros lead scan utf8 noZero names isPath padding readFix sizedR readText readPath readSig accept readG bareR baseR elements lengthR
+    arrayOf arrayR pairR read single variantOf readVar readTop wants count complete text atZero ended andR fixedR byteR oneType ask typeR fieldR
+    tableR openR valuesR bodyR readMessage checkMessage
 message-cases = refl
 
 -- the parts of the 48 bytes, and the bytes again
@@ -135,7 +138,9 @@ parts = record {
 }
 
 pub call-parts : readMessage (call48 0x1a) 0 ≡ got parts 48
-unfolding ret here fail _>>=_ check bytes many nest find put putBase step run allNest parse digits value store load gap zeros lead scan utf8 noZero names isPath padding sizedR readText readPath readSig accept bareR baseR lengthR read readVar wants count complete text atZero inside ended andR fixedR byteR oneType ask typeR fieldR tableR openR valuesR bodyR readMessage
+unfolding ret here fail _>>=_ check bytes window many nest find put putBase step run allNest parse digits value store load gap zeros lead scan utf8
+    noZero names isPath padding sizedR readText readPath readSig accept bareR baseR lengthR read readVar wants count complete text atZero ended andR
+    fixedR byteR oneType ask typeR fieldR tableR openR valuesR bodyR readMessage
 call-parts = refl
 
 pub call-back : encodeMessage parts ≡ call48 0x1a

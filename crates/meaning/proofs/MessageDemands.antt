@@ -25,7 +25,7 @@ use Rattle.meaning.specs.Header.{holdsText, textFrom, lookup}
 use Rattle.meaning.proofs.MessageLocal.{readMessage-local}
 use Rattle.meaning.proofs.MessageMeets.{message-sound, message-complete, message-size}
 use Rattle.meaning.specs.declared.Refusal.{Refusal}
-use Rattle.meaning.specs.Faults.{numberOf, refusal}
+use Rattle.meaning.specs.Faults.{numberOf, moved}
 use Rattle.meaning.specs.declared.Order.{Order}
 
 at-start : (b : List ℕ) (n : ℕ) → n ≤ length b → At b 0 (take n b) n
@@ -126,7 +126,7 @@ open-at-zero b x q = go (openR b 0) q
   where
     go : {A : Type 0} (r : Res A) → toZero r ≡ fault x → x .place .0 ≡ 0
     go (got v e) h = absurd (let z : _≡_ {A = ℕ} 0 1 = cc in omega arith)
-    go {A} (fault y) h = let z : refusal (y .fault) 0 ≡ x = cc in sym (ap (λ (u : Refusal). u .place .0) z)
+    go {A} (fault y) h = let z : moved 0 y ≡ x = cc in sym (ap (λ (u : Refusal). u .place .0) z)
 
 -- field 8 of an accepted table spells types: the reader never refuses there
 sig-text : (o : Order) (t : Ty) (v : Of t (Var 15)) (off : ℕ) → t ≡ base sig → OkVar o 16 (t, v) off → (ts : List Ty) × (parse (textOf [] (t, v)) ≡ types ts)

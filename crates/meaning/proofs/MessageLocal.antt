@@ -5,17 +5,16 @@ use mathlib.Core.Bool.{Bool, true, false}
 use mathlib.Core.List.{List, [], _∷_, _++_}
 use mathlib.Core.Path.{_≡_, refl, ap, sym, subst, _∙_}
 use lib.ListN.{length, take, drop, getD}
-use lib.Seq.{take-append-le, length-take-le}
 use lib.Dec.{leb, eqb}
-use Rattle.meaning.specs.Reader.{Res, got, fault, stop, R, ret, here, fail, _>>=_, _>>_, check, bytes, many}
-use Rattle.meaning.proofs.Local.{Local, Bounded, Full, short, both, le-append, Cmp, isLe, isGt, cmp, leb-true, leb-false, bind-local, bind-bounded, bind-full, map-full, bind-inv, ret-local, ret-inv, here-local, fail-local, check-local, bytes-local, many-bounded, many-full}
+use Rattle.meaning.specs.Reader.{Res, got, fault, stop, R, ret, here, fail, _>>=_, _>>_, check, bytes, inside, many}
+use Rattle.meaning.proofs.Local.{Local, Bounded, Full, short, Cmp, isLe, isGt, cmp, leb-true, leb-false, bind-local, bind-bounded, bind-full, map-full, bind-inv, ret-local, ret-inv, here-local, fail-local, check-local, bytes-local, window-local, many-bounded, many-full}
 use Rattle.meaning.specs.Types.{Ty, Of, Var, Value}
 use Rattle.meaning.specs.Signature.{code, parse, Parsed, types, refused}
 use Rattle.meaning.specs.declared.Fault.{Fault}
-use Rattle.meaning.specs.ReadValue.{padding, readSig, accept, lengthR, pairR, read, readVar, readTop}
-use Rattle.meaning.proofs.ValueLocal.{padding-local, readSig-local, accept-local, lengthR-local, pairR-local, read-local, readVar-local, readTop-local}
+use Rattle.meaning.specs.ReadValue.{padding, readSig, accept, lengthR, pairR, andR, read, readVar, readTop}
+use Rattle.meaning.proofs.ValueLocal.{padding-local, readSig-local, accept-local, lengthR-local, pairR-local, andR-local, read-local, readVar-local, readTop-local}
 use Rattle.meaning.specs.Message.{Wants, nothing, exactly, anything, wants, Field, complete, text, bodySignature, Values, Fixed, Message}
-use Rattle.meaning.specs.ReadMessage.{toZero, atZero, inside, ended, andR, isMark, isKind, fixedIn, sizeIn, fixedR, byteR, oneType, codeOf, ask, typeR, fieldR, tableR, Opened, openR, valuesR, bodyR, messageOf, readMessage}
+use Rattle.meaning.specs.ReadMessage.{toZero, atZero, ended, isMark, isKind, fixedIn, sizeIn, fixedR, byteR, oneType, codeOf, ask, typeR, fieldR, tableR, Opened, openR, valuesR, bodyR, messageOf, readMessage}
 use Rattle.meaning.specs.declared.Refusal.{Refusal}
 use Rattle.meaning.specs.declared.Fault.the-variants.{NotEnoughBytes, WrongSignature, NoSignature, InvalidHeaderField, BodyLeft}
 use Rattle.meaning.specs.declared.Order.{Order}
@@ -45,57 +44,6 @@ atZero-local r lr = record {
   down = λ b c off v e h k l. ap toZero (lr .down b c off v e h (zero-inv (r (b ++ c) off) v e k) l);
 }
 
-inside-yes : {A : Type 0} (n : ℕ) (r : R A) (b : List ℕ) (off : ℕ) → off + n ≤ length b → inside n r b off ≡ r (take (off + n) b) off
-unfolding inside
-inside-yes n r b off h = rw (leb-true (off + n) (length b) h, inside)
-
-inside-no : {A : Type 0} (n : ℕ) (r : R A) (b : List ℕ) (off : ℕ) → length b < off + n → inside n r b off ≡ stop NotEnoughBytes 0
-unfolding inside
-inside-no n r b off h = rw (leb-false (off + n) (length b) h, inside)
-
-pub inside-inv : {A : Type 0} (n : ℕ) (r : R A) (b : List ℕ) (off : ℕ) (v : A) (e : ℕ) → inside n r b off ≡ got v e
-    → (off + n ≤ length b) × (r (take (off + n) b) off ≡ got v e)
-inside-inv {A} n r b off v e k = go (cmp (off + n) (length b))
-  where
-    go : Cmp (off + n) (length b) → (off + n ≤ length b) × (r (take (off + n) b) off ≡ got v e)
-    go (isLe t l) = (l, sym (inside-yes n r b off l) ∙ k)
-    go (isGt t l) = let h1 = inside-no n r b off l in absurd (let z : _≡_ {A = ℕ} 0 1 = cc in omega arith)
-
-pub inside-got : {A : Type 0} (n : ℕ) (r : R A) (b : List ℕ) (off : ℕ) (v : A) (e : ℕ) → off + n ≤ length b → r (take (off + n) b) off ≡ got v e → inside n r b off ≡ got v e
-inside-got n r b off v e l k = inside-yes n r b off l ∙ k
-
--- an accepted part is the whole part
-pub inside-end : {A : Type 0} (n : ℕ) (r : R A) → Bounded r → Full r → (b : List ℕ) (off : ℕ) (v : A) (e : ℕ) → inside n r b off ≡ got v e → e ≡ off + n
-inside-end n r lr fr b off v e k =
-    let i = inside-inv n r b off v e k in
-    let t : length (take (off + n) b) ≡ off + n = length-take-le (off + n) b (i .0) in
-    let o : off ≤ length (take (off + n) b) = rw t (omega arith) in
-    let f = fr (take (off + n) b) off v e o (i .1) in
-    let g = lr (take (off + n) b) off v e o (i .1) in
-    omega arith
-
-pub inside-local : {A : Type 0} (n : ℕ) (r : R A) → Bounded r → Full r → Local (inside n r)
-inside-local {A} n r lr fr = record { up = up′; bound = bound′; down = down′ }
-  where
-    up′ : (b c : List ℕ) (off : ℕ) → off ≤ length b → short (inside n r b off) ≡ false → inside n r (b ++ c) off ≡ inside n r b off
-    up′ b c off h s = go (cmp (off + n) (length b))
-      where
-        go : Cmp (off + n) (length b) → inside n r (b ++ c) off ≡ inside n r b off
-        go (isLe t l) = inside-yes n r (b ++ c) off (le-append b c l) ∙ ap (λ (x : List ℕ). r x off) (take-append-le (off + n) b c l) ∙ sym (inside-yes n r b off l)
-        go (isGt t l) = both _ (ap short (inside-no n r b off l)) s
-
-    bound′ : (b : List ℕ) (off : ℕ) (v : A) (e : ℕ) → off ≤ length b → inside n r b off ≡ got v e → (off ≤ e) × (e ≤ length b)
-    bound′ b off v e h k =
-        let i = inside-inv n r b off v e k in
-        let j = inside-end n r lr fr b off v e k in
-        omega arith
-
-    down′ : (b c : List ℕ) (off : ℕ) (v : A) (e : ℕ) → off ≤ length b → inside n r (b ++ c) off ≡ got v e → e ≤ length b → inside n r b off ≡ got v e
-    down′ b c off v e h k l =
-        let j = inside-end n r lr fr (b ++ c) off v e k in
-        let l1 : off + n ≤ length b = omega arith in
-        inside-yes n r b off l1 ∙ ap (λ (x : List ℕ). r x off) (sym (take-append-le (off + n) b c l1)) ∙ inside-inv n r (b ++ c) off v e k .1
-
 pub ended-yes : (b : List ℕ) (off : ℕ) → length b ≤ off → ended b off ≡ got tt off
 unfolding ended
 ended-yes b off h = rw (leb-true (length b) off h, ended)
@@ -117,9 +65,8 @@ ended-bounded b off v e h k = let i = ended-inv b off v e k in (omega (arith, i 
 ended-full : Full ended
 ended-full b off v e h k = let i = ended-inv b off v e k in omega (arith, i .0, i .1)
 
-pub andR-local : {A : Type 0} {B : A → Type 0} (r : R A) (s : (x : A) → R (B x)) → Local r → ((x : A) → Local (s x)) → Local (andR r s)
-unfolding andR
-andR-local r s lr ls = bind-local r (λ x. s x >>= λ y. ret (x, y)) lr (λ x. bind-local (s x) (λ y. ret (x, y)) (ls x) (λ y. ret-local (x, y)))
+inside-local : {A : Type 0} (n : ℕ) (r : R A) → Bounded r → Full r → Local (inside n r)
+inside-local n r br fr = window-local NotEnoughBytes (λ p. 0) n r br fr refl
 
 ruleset local = (bind-local, ret-local, here-local, fail-local, check-local, bytes-local)
 

@@ -8,8 +8,8 @@ use mathlib.Core.Logic.{_↔_}
 use lib.ListN.{length, take, drop, getD, length-append, length-drop, take-append-drop}
 use lib.Seq.{length-take-le, take-all, take-at, drop-at}
 use lib.Dec.{leb, eqb, T, eqb→eq, eqb-refl, leb→le, lit≤}
-use Rattle.meaning.specs.Reader.{Res, got, fault, R, ret, here, fail, _>>=_, _>>_, check, bytes, many}
-use Rattle.meaning.proofs.Local.{Local, Bounded, bind-inv, bind-got, ret-inv}
+use Rattle.meaning.specs.Reader.{Res, got, fault, R, ret, here, fail, _>>=_, _>>_, check, bytes, inside, many}
+use Rattle.meaning.proofs.Local.{Local, Bounded, bind-inv, bind-got, ret-inv, window-got, window-inv, window-end}
 use Rattle.meaning.specs.Types.{Fix, byte, bool, i16, u16, i32, u32, i64, u64, dbl, fd, Base, fix, str, path, sig, Ty, base, arr, dict, struct, variant, Of, Var, Value}
 use Rattle.meaning.specs.Signature.{code, spell, spellAll, legal, allLegal, parse, Parsed, types, refused, Tok, isBase, toks, find}
 use Rattle.meaning.proofs.SignatureLaws.{find-base, parse-sound, parse-complete, spelled-utf8}
@@ -17,7 +17,7 @@ use Rattle.meaning.specs.Number.{store, load, gap}
 use Rattle.meaning.proofs.NumberLaws.{Bytes, bytes-take, bytes-drop, length-store, load-store, store-load, load-lt}
 use Rattle.meaning.specs.Text.{pick, between, utf8}
 use Rattle.meaning.specs.Value.{Layout, _▹_, pad, raw, each, Cond, okPad, okThen, Each, OkLength, sized, bare, enc, Ok, encVar, OkVar, encode, Fits}
-use Rattle.meaning.specs.ReadValue.{any, padding, readSig, sizedR, accept, lengthR, pairR, read, readVar, readTop}
+use Rattle.meaning.specs.ReadValue.{any, padding, readSig, sizedR, accept, lengthR, pairR, andR, read, readVar, readTop}
 use Rattle.meaning.proofs.ValueLocal.{padding-local, readSig-local, lengthR-local, read-local, readVar-local, readTop-local}
 use Rattle.meaning.proofs.Meets.{At, at-split, at-join, at-bytes, at-none, at-read, at-then, then-at, mid-le, Meets, here-bind, check-bind, check-bind-inv, check-inv, check-yes, bytes-bind, bytes-bind-inv, stored, padding-sound, padding-complete, length-pad, padded, paired, many-sound, many-complete, at-widen, at-narrow, lengths, length-lt}
 use Rattle.meaning.proofs.BaseMeets.{sizeds, under, accept-inv, accept-got}
@@ -25,8 +25,8 @@ use Rattle.meaning.proofs.ValueMeets.{values, variants, neVar, top-meet
 use Rattle.meaning.specs.Message.{mark, kindCode, Wants, nothing, exactly, anything, wants, Holds, Field, encField, OkField, complete, text, bodySignature, Values, encodeAll, FitsAll, Fixed, Message, encFixed, table, bodyAt, frame, bodyOf, encodeMessage, OkFixed, Proper, EncodesMessage}
 use Rattle.meaning.specs.declared.MessageType.{MessageType}
 use Rattle.meaning.specs.declared.MessageType.the-variants.{Call, Reply, Error, Signal}
-use Rattle.meaning.specs.ReadMessage.{atZero, inside, ended, andR, isMark, orderOf, isKind, kindOf, fixedIn, sizeIn, tableIn, messageSize, fixedR, byteR, oneType, codeOf, ask, typeR, fieldR, tableR, Opened, openR, valuesR, bodyR, messageOf, readMessage}
-use Rattle.meaning.proofs.MessageLocal.{atZero-inv, atZero-got, inside-got, inside-inv, inside-end, ended-yes, ended-inv, byteR-local, typeR-local, contentR-local, partsR-local, fieldR-local, fieldsR-bounded, fieldsR-full, tableR-local, fixedR-local, openR-local, valuesR-local, bodyR-bounded, bodyR-full}
+use Rattle.meaning.specs.ReadMessage.{atZero, ended, isMark, orderOf, isKind, kindOf, fixedIn, sizeIn, tableIn, messageSize, fixedR, byteR, oneType, codeOf, ask, typeR, fieldR, tableR, Opened, openR, valuesR, bodyR, messageOf, readMessage}
+use Rattle.meaning.proofs.MessageLocal.{atZero-inv, atZero-got, ended-yes, ended-inv, byteR-local, typeR-local, contentR-local, partsR-local, fieldR-local, fieldsR-bounded, fieldsR-full, tableR-local, fixedR-local, openR-local, valuesR-local, bodyR-bounded, bodyR-full}
 use Rattle.meaning.specs.declared.Fault.the-variants.{WrongSignature, InvalidByteOrder, InvalidMessageType, InvalidHeaderFields}
 use Rattle.meaning.specs.declared.Order.{Order}
 use Rattle.meaning.specs.declared.Order.the-variants.{Little, Big}
@@ -223,8 +223,8 @@ module _ (o : Order) where
       go (n, m, q1, q2) =
           let ls = lengths o .sound b y off n m l q1 in
           let m4 : m ≡ off + 4 = ls .1 .end ∙ ap (λ (z : ℕ). off + z) (length-store o 4 n) in
-          let t = inside-inv n (many n (fieldR o)) b m fs e q2 in
-          let en : e ≡ m + n = inside-end n (many n (fieldR o)) (fieldsR-bounded o n) (fieldsR-full o n) b m fs e q2 in
+          let t = window-inv _ _ n (many n (fieldR o)) b m fs e q2 in
+          let en : e ≡ m + n = window-end _ _ n (many n (fieldR o)) (fieldsR-bounded o n) (fieldsR-full o n) b m fs e q2 in
           let cl : length (take (m + n) b) ≡ m + n = length-take-le (m + n) b (t .0) in
           let s = many-sound (fieldR o) (λ f. encField o f) (λ f. OkField o f) fieldRs (fieldR-local o .bound) n (take (m + n) b) (bytes-take (m + n) b y) m fs e (rw cl (omega arith)) (t .1) in
           let s1 : At b m (each (encField o) fs m) e = at-widen b m (m + n) (each (encField o) fs m) e (t .0) (omega arith) en (s .1) in
@@ -247,7 +247,7 @@ module _ (o : Order) where
       let t3 : At (take (off + 4 + n) b) (off + 4) (each (encField o) fs (off + 4)) (off + 4 + n)
       = at-narrow b (off + 4) (off + 4 + n) (each (encField o) fs (off + 4)) u (subst (λ (z : ℕ). At b (off + 4) (each (encField o) fs (off + 4)) z) en t2) in
       bind-got (lengthR o) (λ n. inside n (many n (fieldR o))) b off n (off + 4) (lengths o .complete b off n (off + 4) (c .1) t1 (mid-le b _ _ e t2 l))
-      ∙ inside-got n (many n (fieldR o)) b (off + 4) fs (off + 4 + n) u
+      ∙ window-got _ _ n (many n (fieldR o)) b (off + 4) fs (off + 4 + n) u
       (many-complete (fieldR o) (λ f. encField o f) (λ f. OkField o f) fieldRs (fieldR-local o .bound) ne-field fs n (take (off + 4 + n) b) (off + 4) (off + 4 + n) (c .0) t3
       (sym (length-take-le (off + 4 + n) b u)) (omega arith))
       ∙ ap (λ (z : ℕ). got fs z) (sym en)
@@ -270,8 +270,8 @@ module _ (o : Order) where
       → FitsAll o ts vs m × At b m (encodeAll o ts vs m) e × (length (encodeAll o ts vs m) ≡ n)
   unfolding bodyR
   body-sound ts b y m n vs e q =
-      let t = inside-inv n (bodyR o ts) b m vs e q in
-      let en : e ≡ m + n = inside-end n (bodyR o ts) (bodyR-bounded o ts) (bodyR-full o ts) b m vs e q in
+      let t = window-inv _ _ n (bodyR o ts) b m vs e q in
+      let en : e ≡ m + n = window-end _ _ n (bodyR o ts) (bodyR-bounded o ts) (bodyR-full o ts) b m vs e q in
       let c : List ℕ = take (m + n) b in
       let cl : length c ≡ m + n = length-take-le (m + n) b (t .0) in
       let i = bind-inv (valuesR o ts) (λ vs. ended >> ret vs) c m vs e (t .1) in
@@ -294,7 +294,7 @@ module _ (o : Order) where
       let c : List ℕ = take (m + n) b in
       let cl : length c ≡ m + n = length-take-le (m + n) b u in
       let t1 : At c m (encodeAll o ts vs m) (m + n) = at-narrow b m (m + n) (encodeAll o ts vs m) u (subst (λ (z : ℕ). At b m (encodeAll o ts vs m) z) en t) in
-      inside-got n (bodyR o ts) b m vs (m + n) u
+      window-got _ _ n (bodyR o ts) b m vs (m + n) u
       (bind-got (valuesR o ts) (λ vs. ended >> ret vs) c m vs (m + n) (valuesRs ts .complete c m vs (m + n) k t1 (omega arith))
       ∙ bind-got ended (λ z. ret vs) c (m + n) tt (m + n) (ended-yes c (m + n) (omega arith)))
       ∙ ap (λ (z : ℕ). got vs z) (sym en)
@@ -607,7 +607,8 @@ message-size b m e k t =
     let p = message-opens b m e k t in
     let o : Order = m .fixed .order in
     let n : ℕ = length (each (encField o) (m .fields) 16) in
-    let t12 : take 12 b ≡ encFixed (m .fixed) (length (bodyOf m)) = subst (λ (j : ℕ). take j b ≡ encFixed (m .fixed) (length (bodyOf m))) (length-fixed (m .fixed) (length (bodyOf m))) (at-read b 0 (encFixed (m .fixed) (length (bodyOf m))) 12 (p .0 .first)) in
+    let head : List ℕ = encFixed (m .fixed) (length (bodyOf m)) in
+    let t12 : take 12 b ≡ head = subst (λ (j : ℕ). take j b ≡ head) (length-fixed (m .fixed) (length (bodyOf m))) (at-read b 0 head 12 (p .0 .first)) in
     let fb = fixed-back (m .fixed) (length (bodyOf m)) (k .fixed) (k .size) in
     let sz : sizeIn (take 12 b) ≡ length (bodyOf m) = ap sizeIn t12 ∙ fb .1 in
     let od : fixedIn (take 12 b) .order ≡ o = ap (λ (x : List ℕ). fixedIn x .order) t12 ∙ ap (λ (x : Fixed). x .order) (fb .0) in

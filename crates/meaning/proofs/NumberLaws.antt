@@ -5,7 +5,7 @@ use native.Mathlib.Nat.{pow-suc, pow-zero, div-lt-iff-lt-mul, mod-add-div, add-m
 use mathlib.Core.List.{List, [], _∷_, _++_, reverse, reverseAux, reverse-reverse}
 use mathlib.Core.Path.{_≡_, refl, ap, ap₂, sym, subst, _∙_}
 use mathlib.Core.Bool.{Bool, true, false}
-use lib.ListN.{length, take, drop, length-reverse, replicate}
+use lib.ListN.{length, take, drop, getD, length-reverse, replicate}
 use lib.Dec.{lit<, T, eqb, eqb→eq}
 use Rattle.meaning.specs.Number.{digits, value, turn, store, load, zeros}
 use Rattle.meaning.specs.declared.Order.{Order}
@@ -14,6 +14,11 @@ use Rattle.meaning.specs.declared.Order.the-variants.{Little, Big}
 abbrev pub Bytes : List ℕ → Type 0
 Bytes [] = Unit {0}
 Bytes (c ∷ cs) = (c < 256) × Bytes cs
+
+-- the elements of a slice of bytes
+pub bytes-of : (b : List ℕ) → ((i : ℕ) → getD b i 0 < 256) → Bytes b
+bytes-of [] h = tt
+bytes-of (c ∷ cs) h = (h 0, bytes-of cs (λ i. h (suc i)))
 
 pub bytes-take : (n : ℕ) (b : List ℕ) → Bytes b → Bytes (take n b)
 bytes-take zero b h = tt

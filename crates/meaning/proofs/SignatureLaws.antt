@@ -7,6 +7,7 @@ use mathlib.Core.Path.{_≡_, refl, ap, sym, subst, _∙_}
 use mathlib.Core.Logic.{_⊎_, inl, inr}
 use lib.ListN.{length}
 use lib.Dec.{leb, ltb, eqb, T, eqb→eq, leb→le, le→leb}
+use Rattle.meaning.proofs.Bases.{for-fix, for-base}
 use Rattle.meaning.specs.Text.{lead, scan, utf8}
 use Rattle.meaning.specs.Types.{Fix, byte, bool, i16, u16, i32, u32, i64, u64, dbl, fd, Base, fix, str, path, sig, Form, inArray, loose, Ty, base, arr, dict, struct, variant, Tys, one, more}
 use Rattle.meaning.specs.Signature.{codeFix, code, opening, spell, spells, spellAll, nest, isKey, notLoose, shape, shapes, legal, Tok, isBase, isArr, isVar, isOpen, isClose, isCurl, isUncurl, isBad, codeTok, toks, find, snoc, Stack, floor, open0, open1, inArr, needKey, needVal, needEnd, Step, to, bad, put, keyed, putBase, begin, curl, close, uncurl, step, run, Parsed, types, refused, allLegal, allNest, finish, parse}
@@ -371,19 +372,8 @@ stands (needEnd f c e k) t = ⊥
 
 pub find-base : (c : Base) → find toks (code c) ≡ isBase c
 unfolding find
-find-base (fix byte) = refl
-find-base (fix bool) = refl
-find-base (fix i16) = refl
-find-base (fix u16) = refl
-find-base (fix i32) = refl
-find-base (fix u32) = refl
-find-base (fix i64) = refl
-find-base (fix u64) = refl
-find-base (fix dbl) = refl
-find-base (fix fd) = refl
-find-base str = refl
-find-base path = refl
-find-base sig = refl
+find-base = for-base (λ c. find toks (code c) ≡ isBase c)
+    (for-fix (λ c. find toks (code (fix c)) ≡ isBase (fix c)) refl refl refl refl refl refl refl refl refl refl) refl refl refl
 
 base-stands : (k : Stack) (c : Base) → stands k (base c) → putBase k c ≡ put k (base c)
 unfolding putBase
@@ -512,19 +502,7 @@ ascii-append (c ∷ cs) t h k = go (ltb c 128) h (λ q. ascii-append cs t q k)
 
 code-ascii : (c : Base) → T (ascii (code c ∷ []))
 unfolding ascii
-code-ascii (fix byte) = tt
-code-ascii (fix bool) = tt
-code-ascii (fix i16) = tt
-code-ascii (fix u16) = tt
-code-ascii (fix i32) = tt
-code-ascii (fix u32) = tt
-code-ascii (fix i64) = tt
-code-ascii (fix u64) = tt
-code-ascii (fix dbl) = tt
-code-ascii (fix fd) = tt
-code-ascii str = tt
-code-ascii path = tt
-code-ascii sig = tt
+code-ascii = for-base (λ c. T (ascii (code c ∷ []))) (for-fix (λ c. T (ascii (code (fix c) ∷ []))) tt tt tt tt tt tt tt tt tt tt) tt tt tt
 
 opening-ascii : (f : Form) → T (ascii (opening f))
 unfolding ascii
@@ -537,7 +515,9 @@ mutual
   spell-ascii : (t : Ty) → T (ascii (spell t))
   spell-ascii (base c) = code-ascii c
   spell-ascii (arr e) = spell-ascii e
-  spell-ascii (dict f k e) = ascii-append (opening f ++ code k ∷ spell e) (125 ∷ []) (ascii-append (opening f) (code k ∷ spell e) (opening-ascii f) (ascii-append (code k ∷ []) (spell e) (code-ascii k) (spell-ascii e))) tt
+  spell-ascii (dict f k e) =
+      let entry : T (ascii (code k ∷ spell e)) = ascii-append (code k ∷ []) (spell e) (code-ascii k) (spell-ascii e) in
+      ascii-append (opening f ++ code k ∷ spell e) (125 ∷ []) (ascii-append (opening f) (code k ∷ spell e) (opening-ascii f) entry) tt
   spell-ascii (struct fs) = ascii-append (spells fs) (41 ∷ []) (spells-ascii fs) tt
   spell-ascii variant = tt
 

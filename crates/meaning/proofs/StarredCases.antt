@@ -5,11 +5,11 @@ use mathlib.Core.Path.{_≡_, refl}
 use lib.ListN.{replicate}
 use Rattle.meaning.specs.Types.{fix, i16, u16, base, arr, struct, one, more}
 use Rattle.meaning.specs.Value.{_▹_, pad, each, counted, bare, encBase, enc, encVar, encode}
-use Rattle.meaning.specs.Reader.{got, ret, here, fail, _>>=_, check, bytes, ahead, within, many}
+use Rattle.meaning.specs.Reader.{got, ret, here, fail, _>>=_, check, bytes, ahead, window, many}
 use Rattle.meaning.specs.Signature.{spell, nest, shape, legal, find, snoc, put, putBase, step, run, allNest, parse}
 use Rattle.meaning.specs.Number.{digits, value, store, load, gap, zeros}
 use Rattle.meaning.specs.Text.{lead, scan, utf8, noZero, names, isPath}
-use Rattle.meaning.specs.ReadValue.{taken, no, padding, readFix, sizedR, readText, readPath, readSig, accept, readG, bareR, baseR, elements, lengthR, countedR, arrayR, pairR, read, single, readVar, readTop, checkAt, checkValue}
+use Rattle.meaning.specs.ReadValue.{taken, no, padding, readFix, sizedR, readText, readPath, readSig, accept, readG, bareR, baseR, elements, lengthR, arrayOf, arrayR, pairR, read, single, variantOf, readVar, readTop, checkAt, checkValue}
 use Rattle.meaning.specs.declared.Fault.the-variants.{NotEnoughBytes, NotEnoughBytesForCollection, PaddingContainedData, InvalidBoolean, StringContainsNullByte, MissingTerminator, InvalidSignature, EmptySignature, EmptyStruct, SignatureTooLong, NestingTooDeep, WrongSignature, VariantTooDeep}
 use Rattle.meaning.specs.declared.Order.the-variants.{Little}
 use Rattle.meaning.specs.declared.Checked.{Checked}
@@ -42,7 +42,9 @@ cases =
     ∷ []
 
 pub starred : map (λ c. checkValue Little (c .type) (c .buf) (c .from)) cases ≡ map (λ c. c .answer) cases
-unfolding ret here fail _>>=_ check bytes ahead within many spell nest shape legal find snoc put putBase step run allNest parse digits value store load gap zeros lead scan utf8 noZero names isPath padding readFix sizedR readText readPath readSig accept readG bareR baseR elements lengthR countedR arrayR pairR read single readVar readTop checkAt checkValue
+unfolding ret here fail _>>=_ check bytes ahead window many spell nest shape legal find snoc put putBase step run allNest parse digits value store
+    load gap zeros lead scan utf8 noZero names isPath padding readFix sizedR readText readPath readSig accept readG bareR baseR elements lengthR
+    arrayOf arrayR pairR read single variantOf readVar readTop checkAt checkValue
 starred = refl
 
 -- the value of the last starred case, and its bytes again
@@ -50,7 +52,7 @@ abbrev kernBytes : List ℕ
 kernBytes = 0x0e ∷ 0 ∷ 0 ∷ 0 ∷ 0 ∷ 0 ∷ 0 ∷ 0 ∷ 1 ∷ 0 ∷ 2 ∷ 0 ∷ 0xff ∷ 0xff ∷ 0 ∷ 0 ∷ 3 ∷ 0 ∷ 4 ∷ 0 ∷ 0x14 ∷ 0 ∷ []
 
 pub kerns : readTop Little (arr (struct (more (base (fix u16)) (more (base (fix u16)) (one (base (fix i16))))))) kernBytes 0 ≡ got ((1, (2, 0xffff)) ∷ (3, (4, 0x14)) ∷ []) 22
-unfolding ret here fail _>>=_ check bytes ahead within many digits value store load gap zeros padding readFix bareR baseR elements lengthR countedR arrayR pairR read readVar readTop
+unfolding ret here fail _>>=_ check bytes ahead window many digits value store load gap zeros padding readFix bareR baseR elements lengthR arrayOf arrayR pairR read readVar readTop
 kerns = refl
 
 pub kerns-back : encode Little (arr (struct (more (base (fix u16)) (more (base (fix u16)) (one (base (fix i16))))))) ((1, (2, 0xffff)) ∷ (3, (4, 0x14)) ∷ []) 0 ≡ kernBytes

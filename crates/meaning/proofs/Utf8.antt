@@ -100,7 +100,9 @@ lead-f0 = refl
 
 lead-f1 : (c : ℕ) → 0xf1 ≤ c → c < 0xf4 → lead c ≡ follow 3 0x80 0xbf
 unfolding lead
-lead-f1 c h k = rw (above c 0x80 (omega arith), above c 0xc2 (omega arith), above c 0xe0 (omega arith), above c 0xe1 (omega arith), above c 0xed (omega arith), above c 0xee (omega arith), above c 0xf0 (omega arith), above c 0xf1 h, below c 0xf4 k)
+lead-f1 c h k =
+    rw (above c 0x80 (omega arith), above c 0xc2 (omega arith), above c 0xe0 (omega arith), above c 0xe1 (omega arith), above c 0xed (omega arith))
+    (rw (above c 0xee (omega arith), above c 0xf0 (omega arith), above c 0xf1 h, below c 0xf4 k))
 
 lead-f4 : lead 0xf4 ≡ follow 3 0x80 0x8f
 unfolding lead
@@ -112,7 +114,9 @@ lead-low c h k = rw (above c 0x80 h, below c 0xc2 k)
 
 lead-high : (c : ℕ) → 0xf5 ≤ c → lead c ≡ noLead
 unfolding lead
-lead-high c h = rw (above c 0x80 (omega arith), above c 0xc2 (omega arith), above c 0xe0 (omega arith), above c 0xe1 (omega arith), above c 0xed (omega arith), above c 0xee (omega arith), above c 0xf0 (omega arith), above c 0xf1 (omega arith), above c 0xf4 (omega arith), above c 0xf5 h)
+lead-high c h =
+    rw (above c 0x80 (omega arith), above c 0xc2 (omega arith), above c 0xe0 (omega arith), above c 0xe1 (omega arith), above c 0xed (omega arith))
+    (rw (above c 0xee (omega arith), above c 0xf0 (omega arith), above c 0xf1 (omega arith), above c 0xf4 (omega arith), above c 0xf5 h))
 
 data View (c : ℕ) : Type 0 where
   asc : c < 0x80 → View c
@@ -135,8 +139,9 @@ rung {X} c n f g = go (cmp (suc c) n)
     go (isGt t h) = g (omega arith)
 
 view : (c : ℕ) → View c
-view c = rung c 0x80 asc (λ h1. rung c 0xc2 (λ k. none′ (lead-low c h1 k)) (λ h2. rung c 0xe0 (two h2) (λ h3. rung c 0xe1 (λ k. e0 (omega arith)) (λ h4. rung c 0xed (mid h4)
-    (λ h5. rung c 0xee (λ k. ed (omega arith)) (λ h6. rung c 0xf0 (ee h6) (λ h7. rung c 0xf1 (λ k. f0 (omega arith)) (λ h8. rung c 0xf4 (f1 h8) (λ h9. rung c 0xf5 (λ k. f4 (omega arith)) (λ h. none′ (lead-high c h)))))))))))
+view c = rung c 0x80 asc (λ h1. rung c 0xc2 (λ k. none′ (lead-low c h1 k)) (λ h2. rung c 0xe0 (two h2)
+    (λ h3. rung c 0xe1 (λ k. e0 (omega arith)) (λ h4. rung c 0xed (mid h4) (λ h5. rung c 0xee (λ k. ed (omega arith)) (λ h6. rung c 0xf0 (ee h6)
+    (λ h7. rung c 0xf1 (λ k. f0 (omega arith)) (λ h8. rung c 0xf4 (f1 h8) (λ h9. rung c 0xf5 (λ k. f4 (omega arith)) (λ h. none′ (lead-high c h)))))))))))
 
 -- steps of the scan
 scan-lead : (c : ℕ) (cs : List ℕ) (lo hi n l h : ℕ) → lead c ≡ follow n l h → scan (c ∷ cs) 0 lo hi ≡ scan cs n l h
@@ -200,7 +205,8 @@ char3 c lo hi ks h1 h2 h3 h4 h5 h6 q =
     let big : 0x800 ≤ f .0 = rung c 0xe1 (λ z. (let w : 0xa0 ≤ lo = h5 (omega arith) in omega (arith, f .1, i .3))) (λ z. omega (arith, f .1)) in
     let s : (f .0 < 0xd800) ⊎ ((0xe000 ≤ f .0) × (f .0 < 0x110000))
     = rung c 0xed (λ z. inl (omega (arith, f .1, i .3, i .4, i .5, i .6)))
-    (λ z. rung c 0xee (λ y. (let w : hi ≤ 0x9f = h6 (omega arith) in inl (omega (arith, f .1, i .3, i .4, i .5, i .6)))) (λ y. inr (omega (arith, f .1, i .3, i .4, i .5, i .6), omega (arith, f .1, i .3, i .4, i .5, i .6)))) in
+    (λ z. rung c 0xee (λ y. (let w : hi ≤ 0x9f = h6 (omega arith) in inl (omega (arith, f .1, i .3, i .4, i .5, i .6))))
+    (λ y. inr (omega (arith, f .1, i .3, i .4, i .5, i .6), omega (arith, f .1, i .3, i .4, i .5, i .6)))) in
     (f .0, s, f .2 big ∙ ap (λ (z : List ℕ). c ∷ z) (sym (i .2)))
 
 char4 : (c lo hi : ℕ) (ks : List ℕ) → 0xf0 ≤ c → c < 0xf5 → 0x80 ≤ lo → hi ≤ 0xbf → (c ≡ 0xf0 → 0x90 ≤ lo) → (c ≡ 0xf4 → hi ≤ 0x8f) → Conts 3 lo hi ks → Char c ks
@@ -209,7 +215,8 @@ char4 c lo hi ks h1 h2 h3 h4 h5 h6 q =
     let i = four-of lo hi ks q in
     let f = from4 c (i .0) (i .1) (i .2) h1 h2 (omega (arith, i .4)) (omega (arith, i .5)) (i .6) (i .7) (i .8) (i .9) in
     let big : 0x10000 ≤ f .0 = rung c 0xf1 (λ z. (let w : 0x90 ≤ lo = h5 (omega arith) in omega (arith, f .1, i .4))) (λ z. omega (arith, f .1)) in
-    let small : f .0 < 0x110000 = rung c 0xf4 (λ z. omega (arith, f .1, i .4, i .5, i .6, i .7, i .8, i .9)) (λ z. (let w : hi ≤ 0x8f = h6 (omega arith) in omega (arith, f .1, i .4, i .5, i .6, i .7, i .8, i .9))) in
+    let small : f .0 < 0x110000 = rung c 0xf4 (λ z. omega (arith, f .1, i .4, i .5, i .6, i .7, i .8, i .9))
+    (λ z. (let w : hi ≤ 0x8f = h6 (omega arith) in omega (arith, f .1, i .4, i .5, i .6, i .7, i .8, i .9))) in
     (f .0, inr (omega arith, small), f .2 big ∙ ap (λ (z : List ℕ). c ∷ z) (sym (i .3)))
 
 one-more : (c : ℕ) (ks rest : List ℕ) → Char c ks → IsUtf8 rest → IsUtf8 (c ∷ (ks ++ rest))
@@ -229,23 +236,21 @@ scan-split [] zero lo hi t = ([], [], refl, refl, ([], tt, refl))
 scan-split [] (suc n) lo hi t = absurd (rw (eqb·suc-zero n) at t)
 scan-split (c ∷ cs) zero lo hi t = go (λ n l h q. scan-split cs n l h q) (view c)
   where
+    -- a first byte that n others follow, the next of them from l to h
+    by : ((n l h : ℕ) → T (scan cs n l h) → Split cs n l h) → (n l h : ℕ) → lead c ≡ follow n l h → ((ks : List ℕ) → Conts n l h ks → Char c ks)
+        → Split (c ∷ cs) 0 lo hi
+    by ih n l h e f = whole-char c n l h cs lo hi f (ih n l h (rw (scan-lead c cs lo hi n l h e) at t))
+
     go : ((n l h : ℕ) → T (scan cs n l h) → Split cs n l h) → View c → Split (c ∷ cs) 0 lo hi
-    go ih (asc h) = whole-char c 0 0 0 cs lo hi (λ ks q. rw q (char1 c h)) (ih 0 0 0 (rw (scan-lead c cs lo hi 0 0 0 (lead-asc c h)) at t))
-    go ih (two h k) = whole-char c 1 0x80 0xbf cs lo hi (λ ks q. char2 c ks h k q) (ih 1 0x80 0xbf (rw (scan-lead c cs lo hi 1 0x80 0xbf (lead-two c h k)) at t))
-    go ih (e0 z) = whole-char c 2 0xa0 0xbf cs lo hi (λ ks q. char3 c 0xa0 0xbf ks (omega arith) (omega arith) (omega arith) (omega arith) (λ y. omega arith) (λ y. absurd (omega arith)) q)
-        (ih 2 0xa0 0xbf (rw (scan-lead c cs lo hi 2 0xa0 0xbf (rw z lead-e0)) at t))
-    go ih (mid h k) = whole-char c 2 0x80 0xbf cs lo hi (λ ks q. char3 c 0x80 0xbf ks (omega arith) (omega arith) (omega arith) (omega arith) (λ y. absurd (omega arith)) (λ y. absurd (omega arith)) q)
-        (ih 2 0x80 0xbf (rw (scan-lead c cs lo hi 2 0x80 0xbf (lead-mid c h k)) at t))
-    go ih (ed z) = whole-char c 2 0x80 0x9f cs lo hi (λ ks q. char3 c 0x80 0x9f ks (omega arith) (omega arith) (omega arith) (omega arith) (λ y. absurd (omega arith)) (λ y. omega arith) q)
-        (ih 2 0x80 0x9f (rw (scan-lead c cs lo hi 2 0x80 0x9f (rw z lead-ed)) at t))
-    go ih (ee h k) = whole-char c 2 0x80 0xbf cs lo hi (λ ks q. char3 c 0x80 0xbf ks (omega arith) (omega arith) (omega arith) (omega arith) (λ y. absurd (omega arith)) (λ y. absurd (omega arith)) q)
-        (ih 2 0x80 0xbf (rw (scan-lead c cs lo hi 2 0x80 0xbf (lead-ee c h k)) at t))
-    go ih (f0 z) = whole-char c 3 0x90 0xbf cs lo hi (λ ks q. char4 c 0x90 0xbf ks (omega arith) (omega arith) (omega arith) (omega arith) (λ y. omega arith) (λ y. absurd (omega arith)) q)
-        (ih 3 0x90 0xbf (rw (scan-lead c cs lo hi 3 0x90 0xbf (rw z lead-f0)) at t))
-    go ih (f1 h k) = whole-char c 3 0x80 0xbf cs lo hi (λ ks q. char4 c 0x80 0xbf ks (omega arith) (omega arith) (omega arith) (omega arith) (λ y. absurd (omega arith)) (λ y. absurd (omega arith)) q)
-        (ih 3 0x80 0xbf (rw (scan-lead c cs lo hi 3 0x80 0xbf (lead-f1 c h k)) at t))
-    go ih (f4 z) = whole-char c 3 0x80 0x8f cs lo hi (λ ks q. char4 c 0x80 0x8f ks (omega arith) (omega arith) (omega arith) (omega arith) (λ y. absurd (omega arith)) (λ y. omega arith) q)
-        (ih 3 0x80 0x8f (rw (scan-lead c cs lo hi 3 0x80 0x8f (rw z lead-f4)) at t))
+    go ih (asc h) = by ih 0 0 0 (lead-asc c h) (λ ks q. rw q (char1 c h))
+    go ih (two h k) = by ih 1 0x80 0xbf (lead-two c h k) (λ ks q. char2 c ks h k q)
+    go ih (e0 z) = by ih 2 0xa0 0xbf (rw z lead-e0) (λ ks q. char3 c 0xa0 0xbf ks (omega arith) (omega arith) (omega arith) (omega arith) (λ y. omega arith) (λ y. absurd (omega arith)) q)
+    go ih (mid h k) = by ih 2 0x80 0xbf (lead-mid c h k) (λ ks q. char3 c 0x80 0xbf ks (omega arith) (omega arith) (omega arith) (omega arith) (λ y. absurd (omega arith)) (λ y. absurd (omega arith)) q)
+    go ih (ed z) = by ih 2 0x80 0x9f (rw z lead-ed) (λ ks q. char3 c 0x80 0x9f ks (omega arith) (omega arith) (omega arith) (omega arith) (λ y. absurd (omega arith)) (λ y. omega arith) q)
+    go ih (ee h k) = by ih 2 0x80 0xbf (lead-ee c h k) (λ ks q. char3 c 0x80 0xbf ks (omega arith) (omega arith) (omega arith) (omega arith) (λ y. absurd (omega arith)) (λ y. absurd (omega arith)) q)
+    go ih (f0 z) = by ih 3 0x90 0xbf (rw z lead-f0) (λ ks q. char4 c 0x90 0xbf ks (omega arith) (omega arith) (omega arith) (omega arith) (λ y. omega arith) (λ y. absurd (omega arith)) q)
+    go ih (f1 h k) = by ih 3 0x80 0xbf (lead-f1 c h k) (λ ks q. char4 c 0x80 0xbf ks (omega arith) (omega arith) (omega arith) (omega arith) (λ y. absurd (omega arith)) (λ y. absurd (omega arith)) q)
+    go ih (f4 z) = by ih 3 0x80 0x8f (rw z lead-f4) (λ ks q. char4 c 0x80 0x8f ks (omega arith) (omega arith) (omega arith) (omega arith) (λ y. absurd (omega arith)) (λ y. omega arith) q)
     go ih (none′ z) = absurd (rw (scan-none c cs lo hi z) at t)
 scan-split (c ∷ cs) (suc n) lo hi t =
     let i = scan-next-inv c cs n lo hi t in
@@ -279,13 +284,25 @@ good3 c k l lo hi rest e h1 h2 h3 h4 g = rw (scan-lead c (k ∷ l ∷ rest) 0 0 
 
 good4 : (c k l m lo hi : ℕ) (rest : List ℕ) → lead c ≡ follow 3 lo hi → lo ≤ k → k ≤ hi → 0x80 ≤ l → l ≤ 0xbf → 0x80 ≤ m → m ≤ 0xbf → Good rest → Good (c ∷ k ∷ l ∷ m ∷ rest)
 unfolding Good
-good4 c k l m lo hi rest e h1 h2 h3 h4 h5 h6 g = rw (scan-lead c (k ∷ l ∷ m ∷ rest) 0 0 3 lo hi e, scan-next k (l ∷ m ∷ rest) 2 lo hi h1 h2, scan-next l (m ∷ rest) 1 0x80 0xbf h3 h4, scan-next m rest 0 0x80 0xbf h5 h6) (scan-any rest 0x80 0xbf g)
+good4 c k l m lo hi rest e h1 h2 h3 h4 h5 h6 g =
+    rw (scan-lead c (k ∷ l ∷ m ∷ rest) 0 0 3 lo hi e, scan-next k (l ∷ m ∷ rest) 2 lo hi h1 h2, scan-next l (m ∷ rest) 1 0x80 0xbf h3 h4, scan-next m rest 0 0x80 0xbf h5 h6) (scan-any rest 0x80 0xbf g)
 
 cont-lo : (x : ℕ) → 0x80 ≤ 0x80 + x % 64
 cont-lo x = omega arith
 
 cont-hi : (x : ℕ) → 0x80 + x % 64 ≤ 0xbf
 cont-hi x = omega arith
+
+-- the three and four bytes of a scalar, by the class of the first
+three-good : (x lo hi : ℕ) (rest : List ℕ) → lead (0xe0 + x / 4096) ≡ follow 2 lo hi → lo ≤ 0x80 + x / 64 % 64 → 0x80 + x / 64 % 64 ≤ hi → Good rest
+    → Good ((0xe0 + x / 4096) ∷ (0x80 + x / 64 % 64) ∷ (0x80 + x % 64) ∷ rest)
+three-good x lo hi rest e a b g = good3 (0xe0 + x / 4096) (0x80 + x / 64 % 64) (0x80 + x % 64) lo hi rest e a b (cont-lo x) (cont-hi x) g
+
+four-good : (x lo hi : ℕ) (rest : List ℕ) → lead (0xf0 + x / 262144) ≡ follow 3 lo hi → lo ≤ 0x80 + x / 4096 % 64 → 0x80 + x / 4096 % 64 ≤ hi → Good rest
+    → Good ((0xf0 + x / 262144) ∷ (0x80 + x / 4096 % 64) ∷ (0x80 + x / 64 % 64) ∷ (0x80 + x % 64) ∷ rest)
+four-good x lo hi rest e a b g =
+    good4 (0xf0 + x / 262144) (0x80 + x / 4096 % 64) (0x80 + x / 64 % 64) (0x80 + x % 64) lo hi rest e a b
+    (cont-lo (x / 64)) (cont-hi (x / 64)) (cont-lo x) (cont-hi x) g
 
 good-char : (x : ℕ) (rest : List ℕ) → Scalar x → Good rest → Good (encode x ++ rest)
 unfolding Scalar
@@ -296,18 +313,18 @@ good-char x rest s g =
   where
     three : 0x800 ≤ x → x < 0x10000 → (x < 0xd800) ⊎ ((0xe000 ≤ x) × (x < 0x110000)) → Good ((0xe0 + x / 4096) ∷ (0x80 + x / 64 % 64) ∷ (0x80 + x % 64) ∷ rest)
     three h k (inl z) =
-        rung x 0x1000 (λ y. good3 (0xe0 + x / 4096) (0x80 + x / 64 % 64) (0x80 + x % 64) 0xa0 0xbf rest (let q : 0xe0 + x / 4096 ≡ 0xe0 = omega arith in rw q lead-e0) (omega arith) (cont-hi (x / 64)) (cont-lo x) (cont-hi x) g) (λ y.
-        rung x 0xd000 (λ w. good3 (0xe0 + x / 4096) (0x80 + x / 64 % 64) (0x80 + x % 64) 0x80 0xbf rest (lead-mid (0xe0 + x / 4096) (omega arith) (omega arith)) (cont-lo (x / 64)) (cont-hi (x / 64)) (cont-lo x) (cont-hi x) g)
-        (λ w. good3 (0xe0 + x / 4096) (0x80 + x / 64 % 64) (0x80 + x % 64) 0x80 0x9f rest (let q : 0xe0 + x / 4096 ≡ 0xed = omega arith in rw q lead-ed) (cont-lo (x / 64)) (omega arith) (cont-lo x) (cont-hi x) g))
-    three h k (inr z) = good3 (0xe0 + x / 4096) (0x80 + x / 64 % 64) (0x80 + x % 64) 0x80 0xbf rest (lead-ee (0xe0 + x / 4096) (omega arith) (omega arith)) (cont-lo (x / 64)) (cont-hi (x / 64)) (cont-lo x) (cont-hi x) g
+        rung x 0x1000 (λ y. three-good x 0xa0 0xbf rest (let q : 0xe0 + x / 4096 ≡ 0xe0 = omega arith in rw q lead-e0) (omega arith) (cont-hi (x / 64)) g)
+        (λ y. rung x 0xd000 (λ w. three-good x 0x80 0xbf rest (lead-mid (0xe0 + x / 4096) (omega arith) (omega arith)) (cont-lo (x / 64)) (cont-hi (x / 64)) g)
+        (λ w. three-good x 0x80 0x9f rest (let q : 0xe0 + x / 4096 ≡ 0xed = omega arith in rw q lead-ed) (cont-lo (x / 64)) (omega arith) g))
+    three h k (inr z) = three-good x 0x80 0xbf rest (lead-ee (0xe0 + x / 4096) (omega arith) (omega arith)) (cont-lo (x / 64)) (cont-hi (x / 64)) g
 
     four : 0x10000 ≤ x → (x < 0xd800) ⊎ ((0xe000 ≤ x) × (x < 0x110000)) → Good ((0xf0 + x / 262144) ∷ (0x80 + x / 4096 % 64) ∷ (0x80 + x / 64 % 64) ∷ (0x80 + x % 64) ∷ rest)
     four h (inl z) = absurd (omega arith)
     four h (inr z) =
         let z1 : x < 0x110000 = z .1 in
-        rung x 0x40000 (λ y. good4 (0xf0 + x / 262144) (0x80 + x / 4096 % 64) (0x80 + x / 64 % 64) (0x80 + x % 64) 0x90 0xbf rest (let q : 0xf0 + x / 262144 ≡ 0xf0 = omega arith in rw q lead-f0) (omega arith) (cont-hi (x / 4096)) (cont-lo (x / 64)) (cont-hi (x / 64)) (cont-lo x) (cont-hi x) g) (λ y.
-        rung x 0x100000 (λ w. good4 (0xf0 + x / 262144) (0x80 + x / 4096 % 64) (0x80 + x / 64 % 64) (0x80 + x % 64) 0x80 0xbf rest (lead-f1 (0xf0 + x / 262144) (omega arith) (omega arith)) (cont-lo (x / 4096)) (cont-hi (x / 4096)) (cont-lo (x / 64)) (cont-hi (x / 64)) (cont-lo x) (cont-hi x) g)
-        (λ w. good4 (0xf0 + x / 262144) (0x80 + x / 4096 % 64) (0x80 + x / 64 % 64) (0x80 + x % 64) 0x80 0x8f rest (let q : 0xf0 + x / 262144 ≡ 0xf4 = omega arith in rw q lead-f4) (cont-lo (x / 4096)) (omega arith) (cont-lo (x / 64)) (cont-hi (x / 64)) (cont-lo x) (cont-hi x) g))
+        rung x 0x40000 (λ y. four-good x 0x90 0xbf rest (let q : 0xf0 + x / 262144 ≡ 0xf0 = omega arith in rw q lead-f0) (omega arith) (cont-hi (x / 4096)) g)
+        (λ y. rung x 0x100000 (λ w. four-good x 0x80 0xbf rest (lead-f1 (0xf0 + x / 262144) (omega arith) (omega arith)) (cont-lo (x / 4096)) (cont-hi (x / 4096)) g)
+        (λ w. four-good x 0x80 0x8f rest (let q : 0xf0 + x / 262144 ≡ 0xf4 = omega arith in rw q lead-f4) (cont-lo (x / 4096)) (omega arith) g))
 
 good-all : (xs : List ℕ) → All Scalar xs → Good (encodeAll xs)
 unfolding encodeAll Good scan

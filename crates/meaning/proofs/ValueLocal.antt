@@ -7,13 +7,13 @@ use mathlib.Core.Path.{_≡_, refl}
 use lib.ListN.{length, take, drop}
 use lib.Dec.{ltb, eqb}
 use Rattle.meaning.specs.Reader.{Res, got, fault, R, ret, here, fail, _>>=_, _>>_, check, bytes, ahead, within, many}
-use Rattle.meaning.proofs.Local.{Local, Bounded, Full, bind-local, bind-bounded, bind-full, bind-inv, ret-local, here-local, fail-local, check-local, bytes-local, ahead-local, within-local, within-end, many-bounded, many-full}
+use Rattle.meaning.proofs.Local.{Local, Bounded, Full, bind-local, bind-bounded, bind-full, bind-inv, ret-local, here-local, fail-local, check-local, bytes-local, ahead-local, window-local, window-end, many-bounded, many-full}
 use Rattle.meaning.specs.Types.{Fix, Base, fix, str, path, sig, Ty, base, arr, dict, struct, variant, Tys, one, more, Raw, Of, Ofs, Var, Value, size, top, alignBase, align, whole}
 use Rattle.meaning.specs.Signature.{parse, Parsed, types, refused}
 use Rattle.meaning.specs.Number.{load, gap, zeros}
 use Rattle.meaning.specs.Text.{utf8, noZero, isPath}
-use Rattle.meaning.specs.ReadValue.{any, padding, readFix, sizedR, readText, readPath, readSig, accept, readG, bareR, baseR, elements, lengthR, countedR, arrayR, pairR, read, reads, single, readVar, readTop}
-use Rattle.meaning.specs.declared.Fault.the-variants.{NotEnoughBytes, EmptySignature, WrongSignature}
+use Rattle.meaning.specs.ReadValue.{any, padding, readFix, sizedR, readText, readPath, readSig, accept, readG, bareR, baseR, elements, lengthR, contentsOf, arrayOf, arrayR, pairR, andR, read, reads, single, variantOf, readVar, readTop}
+use Rattle.meaning.specs.declared.Fault.the-variants.{NotEnoughBytes, NotEnoughBytesForCollection, EmptySignature, WrongSignature}
 use Rattle.meaning.specs.declared.Order.{Order}
 use Rattle.meaning.specs.declared.Fault.{Fault}
 
@@ -73,6 +73,10 @@ pub pairR-local : {A B : Type 0} (r : R A) (s : R B) → Local r → Local s →
 unfolding pairR
 pairR-local r s lr ls = search local depth 20
 
+pub andR-local : {A : Type 0} {B : A → Type 0} (r : R A) (s : (x : A) → R (B x)) → Local r → ((x : A) → Local (s x)) → Local (andR r s)
+unfolding andR
+andR-local r s lr ls = bind-local r (λ x. s x >>= λ y. ret (x, y)) lr (λ x. bind-local (s x) (λ y. ret (x, y)) (ls x) (λ y. ret-local (x, y)))
+
 pub elements-bounded : {A : Type 0} (n w : ℕ) (r : R A) → Local r → Bounded (elements n w r)
 unfolding elements
 elements-bounded n w r lr = bind-bounded here (λ f. check (eqb (n % w) 0) NotEnoughBytes f >> many n r) (here-local .bound)
@@ -83,26 +87,31 @@ unfolding elements
 elements-full n w r lr = bind-full here (λ f. check (eqb (n % w) 0) NotEnoughBytes f >> many n r) (here-local .bound)
     (λ f. bind-full (check (eqb (n % w) 0) NotEnoughBytes f) (λ z. many n r) (check-local (eqb (n % w) 0) NotEnoughBytes f .bound) (λ z. many-full n r (lr .bound)))
 
-pub contents-local : {A : Type 0} (a n w : ℕ) (r : R A) → Local r → Local (ahead n (padding a >> within n (elements n w r)))
-contents-local a n w r lr = ahead-local n (padding a >> within n (elements n w r))
-    (bind-local (padding a) (λ z. within n (elements n w r)) (padding-local a) (λ z. within-local n (elements n w r) (elements-bounded n w r lr) (elements-full n w r lr)))
-    (λ b off v e h k.
-    let i = bind-inv (padding a) (λ z. within n (elements n w r)) b off v e k in
-    let j = padding-local a .bound b off (i .0) (i .1) h (i .2) in
-    let q = within-end n (elements n w r) (elements-bounded n w r lr) (elements-full n w r lr) b (i .1) v e (i .3) in
-    omega arith)
-
 pub lengthR-local : (o : Order) → Local (lengthR o)
 unfolding lengthR
 lengthR-local o = search local depth 20
 
-pub countedR-local : {A : Type 0} (o : Order) (a w : ℕ) (r : R A) → Local r → Local (countedR o a w r)
-unfolding countedR
-countedR-local o a w r lr = search (local, lengthR-local, contents-local) depth 20
+-- the head of an array, over any contents that fill the bytes that they are given
+module _ {A : Type 0} (o : Order) (a : ℕ) (c : ℕ → R A) (bc : (n : ℕ) → Bounded (c n)) (fc : (n : ℕ) → Full (c n)) where
+  part-local : (n : ℕ) → Local (within n (c n))
+  part-local n = window-local NotEnoughBytesForCollection (λ p. p) n (c n) (bc n) (fc n) refl
+
+  pub contents-local : (n : ℕ) → Local (contentsOf a c n)
+  contents-local n = ahead-local n (padding a >> within n (c n)) (bind-local (padding a) (λ z. within n (c n)) (padding-local a) (λ z. part-local n))
+      (λ b off v e h k.
+      let i = bind-inv (padding a) (λ z. within n (c n)) b off v e k in
+      let j = padding-local a .bound b off (i .0) (i .1) h (i .2) in
+      let q = window-end NotEnoughBytesForCollection (λ p. p) n (c n) (bc n) (fc n) b (i .1) v e (i .3) in
+      omega arith)
+
+  pub arrayOf-local : Local (arrayOf o a c)
+  unfolding arrayOf
+  arrayOf-local = search (local, padding-local, lengthR-local, contents-local) depth 20
 
 pub arrayR-local : {A : Type 0} (o : Order) (a w : ℕ) (r : R A) → Local r → Local (arrayR o a w r)
 unfolding arrayR
-arrayR-local o a w r lr = search (local, padding-local, countedR-local) depth 20
+arrayR-local o a w r lr =
+    arrayOf-local o a (λ n. elements n w r) (λ n. elements-bounded n w r lr) (λ n. elements-full n w r lr)
 
 module _ (o : Order) {W : Type 0} (readW : R W) (lw : Local readW) where
   mutual
@@ -120,10 +129,15 @@ module _ (o : Order) {W : Type 0} (readW : R W) (lw : Local readW) where
     reads-local (one e) = read-local e
     reads-local (more e fs) = pairR-local (read o readW e) (reads o readW fs) (read-local e) (reads-local fs)
 
+-- the head of a variant, over any contents
+pub variantOf-local : {B : Ty → Type 0} (o : Order) (c : (e : Ty) → R (B e)) → ((e : Ty) → Local (c e)) → Local (variantOf o c)
+unfolding variantOf
+variantOf-local o c lc = search (local, readSig-local, accept-local, single-local, lc) depth 20
+
 pub readVar-local : (o : Order) (n : ℕ) → Local (readVar o n)
 unfolding readVar
 readVar-local o zero = search local
-readVar-local o (suc n) = let ih = read-local o (readVar o n) (readVar-local o n) in search (local, readSig-local, accept-local, single-local, ih) depth 20
+readVar-local o (suc n) = variantOf-local o (λ e. read o (readVar o n) e) (read-local o (readVar o n) (readVar-local o n))
 
 pub readTop-local : (o : Order) (t : Ty) → Local (readTop o t)
 unfolding readTop

@@ -9,6 +9,7 @@ use mathlib.Core.Logic.{_↔_}
 use lib.ListN.{length, take, drop, length-append, take-append-drop, length-drop}
 use lib.Seq.{length-take-le, drop-drop}
 use lib.Dec.{T, lit≤}
+use Rattle.meaning.proofs.Bases.{by-size}
 use Rattle.meaning.specs.Reader.{Res, got, fault, R, ret, here, fail, _>>=_, _>>_, check, bytes}
 use Rattle.meaning.proofs.Local.{Local, bind-inv, bind-got, ret-inv}
 use Rattle.meaning.specs.Types.{Fix, byte, bool, i16, u16, i32, u32, i64, u64, dbl, fd, Base, fix, str, path, sig, Ty, base, arr, dict, struct, variant, Tys, one, more, Raw, Of, Ofs, Var, Value, size, top, alignBase, align, whole, wholeFix}
@@ -16,10 +17,10 @@ use Rattle.meaning.specs.Signature.{parse, Parsed, types, refused, legal
 use Rattle.meaning.specs.Number.{store, load, gap, zeros}
 use Rattle.meaning.proofs.NumberLaws.{Bytes, length-store}
 use Rattle.meaning.specs.Value.{Layout, _▹_, pad, raw, each, counted, Cond, okPad, okThen, Each, first, okCounted, sized, bare, encBase, OkBase, enc, encs, Ok, Oks, encVar, OkVar, encode, Fits, Encodes}
-use Rattle.meaning.specs.ReadValue.{padding, readSig, accept, single, bareR, baseR, elements, countedR, arrayR, pairR, read, reads, readVar, readTop}
+use Rattle.meaning.specs.ReadValue.{padding, readSig, accept, single, bareR, baseR, elements, arrayR, pairR, read, reads, variantOf, readVar, readTop}
 use Rattle.meaning.proofs.ValueLocal.{padding-local, baseR-local, pairR-local, read-local, reads-local, readSig-local, accept-local, readVar-local, readTop-local}
 use Rattle.meaning.proofs.Local.{bind-local}
-use Rattle.meaning.proofs.Meets.{At, at-read, at-then, then-at, at-bytes, Meets, here-bind, length-pad, padded, paired, counteds, mid-le}
+use Rattle.meaning.proofs.Meets.{At, at-read, at-then, then-at, at-bytes, Meets, here-bind, length-pad, padded, paired, headed, elements-fill, mid-le}
 use Rattle.meaning.proofs.BaseMeets.{bases, sig-sound, sig-complete}
 use Rattle.meaning.specs.declared.Order.{Order}
 use Rattle.meaning.proofs.Booleans.{and-left}
@@ -30,16 +31,7 @@ unfolding _▹_
 ne-then f g off h = rw length-append (omega arith)
 
 pub ne-size : (c : Fix) → 1 ≤ size c
-ne-size byte = lit≤ tt
-ne-size bool = lit≤ tt
-ne-size i16 = lit≤ tt
-ne-size u16 = lit≤ tt
-ne-size i32 = lit≤ tt
-ne-size u32 = lit≤ tt
-ne-size i64 = lit≤ tt
-ne-size u64 = lit≤ tt
-ne-size dbl = lit≤ tt
-ne-size fd = lit≤ tt
+ne-size = by-size (λ n. 1 ≤ n) (lit≤ tt) (lit≤ tt) (lit≤ tt) (lit≤ tt)
 
 ne-sized : (o : Order) (w : ℕ) (v : List ℕ) → 1 ≤ length (sized o w v)
 unfolding sized
@@ -93,44 +85,17 @@ module _ (o : Order) (c : Fix) (al : (off : ℕ) → (off + gap (size c) off) % 
 mod1 : (n : ℕ) → n % 1 ≡ 0
 mod1 n = omega arith
 
--- gaps, for the three alignments that need one
+-- gaps, for the four alignments
 pub gap-al : (c : Fix) (off : ℕ) → (off + gap (size c) off) % size c ≡ 0
 unfolding gap
-gap-al byte off = omega arith
-gap-al bool off = omega arith
-gap-al i16 off = omega arith
-gap-al u16 off = omega arith
-gap-al i32 off = omega arith
-gap-al u32 off = omega arith
-gap-al i64 off = omega arith
-gap-al u64 off = omega arith
-gap-al dbl off = omega arith
-gap-al fd off = omega arith
+gap-al c off = by-size (λ n. (off + gap n off) % n ≡ 0) (omega arith) (omega arith) (omega arith) (omega arith) c
 
 pub gap-none : (c : Fix) (off : ℕ) → off % size c ≡ 0 → gap (size c) off ≡ 0
 unfolding gap
-gap-none byte off h = omega arith
-gap-none bool off h = omega arith
-gap-none i16 off h = omega arith
-gap-none u16 off h = omega arith
-gap-none i32 off h = omega arith
-gap-none u32 off h = omega arith
-gap-none i64 off h = omega arith
-gap-none u64 off h = omega arith
-gap-none dbl off h = omega arith
-gap-none fd off h = omega arith
+gap-none c off = by-size (λ n. off % n ≡ 0 → gap n off ≡ 0) (λ h. omega arith) (λ h. omega arith) (λ h. omega arith) (λ h. omega arith) c
 
 zero-mod : (c : Fix) → 0 % size c ≡ 0
-zero-mod byte = refl
-zero-mod bool = refl
-zero-mod i16 = refl
-zero-mod u16 = refl
-zero-mod i32 = refl
-zero-mod u32 = refl
-zero-mod i64 = refl
-zero-mod u64 = refl
-zero-mod dbl = refl
-zero-mod fd = refl
+zero-mod = by-size (λ n. 0 % n ≡ 0) refl refl refl refl
 
 whole-any : (o : Order) (c : Fix) (vs : List ℕ) (off : ℕ) → length (each (λ v. encBase o (fix c) v) vs (first (size c) off)) % size c ≡ 0
 whole-any o c vs off = whole-fix o c (gap-al c) (gap-none c) (zero-mod c) vs (first (size c) off) (gap-al c (off + 4))
@@ -167,7 +132,8 @@ module _ (o : Order) {W : Type 0} (readW : R W) (encW : W → Layout) (okW : W �
   arrays : {A : Type 0} (a w : ℕ) (r : R A) (f : A → Layout) (k : A → Cond) → Meets r f k → Local r → ((v : A) (off : ℕ) → 1 ≤ length (f v off))
       → ((vs : List A) (off : ℕ) → length (each f vs (first a off)) % w ≡ 0) → Meets (arrayR o a w r) (λ vs. pad 4 ▹ counted o a (each f vs)) (λ vs. okPad 4 (okCounted a f k vs))
   unfolding arrayR
-  arrays a w r f k h lr nf wh = padded 4 (countedR o a w r) (λ vs. counted o a (each f vs)) (okCounted a f k) (counteds o a w r f k h lr nf wh) (padding-local 4 .bound)
+  arrays a w r f k h lr nf wh =
+      headed o a (λ n. elements n w r) (λ vs. each f vs) (λ vs. Each f k vs) (elements-fill a w r f k h lr nf wh)
 
   mutual
     unfolding read enc Ok
@@ -222,55 +188,71 @@ unfolding encVar
 neVar o zero w off = absurd w
 neVar o (suc n) w off = ne-then (raw (bare o sig (spell (w .0)))) (enc o (encVar o n) (w .0) (w .1)) off (ne o (encVar o n) (neVar o n) (w .0) (w .1) _)
 
-module _ (o : Order) (n : ℕ) (ih : (t : Ty) → Meets (read o (readVar o n) t) (λ v. enc o (encVar o n) t v) (λ v. Ok o (encVar o n) (OkVar o n) t v)) where
-  abbrev rest4 : Ty → R (Var (suc n))
-  rest4 t = read o (readVar o n) t >>= λ v. ret (t, v)
+-- the head of a variant, over any contents that meet their layouts: a signature of one legal type, and then a value of it
+module _ {B : Ty → Type 0} (o : Order) (c : (t : Ty) → R (B t)) (f : (t : Ty) → B t → Layout) (k : (t : Ty) → B t → Cond)
+    (ih : (t : Ty) → Meets (c t) (f t) (k t)) where
+  abbrev encOf : (t : Ty) × B t → Layout
+  encOf w = raw (bare o sig (spell (w .0))) ▹ f (w .0) (w .1)
 
-  abbrev rest3 : ℕ → List Ty → R (Var (suc n))
-  rest3 p ts = single ts p >>= λ t. rest4 t
+  abbrev okOf : (t : Ty) × B t → Cond
+  okOf w off = T (legal (w .0)) × (length (spell (w .0)) ≤ 255) × okThen (raw (bare o sig (spell (w .0)))) (λ p. Unit {0}) (k (w .0) (w .1)) off
 
-  abbrev rest2 : ℕ → List ℕ → R (Var (suc n))
-  rest2 p s = accept (parse s) p >>= λ ts. rest3 p ts
+  abbrev holds : Ty → R ((t : Ty) × B t)
+  holds t = c t >>= λ v. ret (t, v)
 
-  var-sound : (b : List ℕ) → Bytes b → (off : ℕ) (w : Var (suc n)) (e : ℕ) → off ≤ length b → readVar o (suc n) b off ≡ got w e
-      → OkVar o (suc n) w off × At b off (encVar o (suc n) w off) e
-  unfolding readVar encVar OkVar bare
+  abbrev typed : ℕ → List Ty → R ((t : Ty) × B t)
+  typed p ts = single ts p >>= λ t. holds t
+
+  abbrev spelt : ℕ → List ℕ → R ((t : Ty) × B t)
+  spelt p s = accept (parse s) p >>= λ ts. typed p ts
+
+  var-sound : (b : List ℕ) → Bytes b → (off : ℕ) (w : (t : Ty) × B t) (e : ℕ) → off ≤ length b → variantOf o c b off ≡ got w e
+      → okOf w off × At b off (encOf w off) e
+  unfolding variantOf bare
   var-sound b y off w e l q =
-      let i1 = bind-inv (readSig o) (rest2 off) b off w e (sym (here-bind (λ p. readSig o >>= rest2 p) b off) ∙ q) in
-      let i2 = bind-inv (accept (parse (i1 .0)) off) (rest3 off) b (i1 .1) w e (i1 .3) in
-      let i3 = bind-inv (single (i2 .0) off) rest4 b (i2 .1) w e (i2 .3) in
-      let i4 = bind-inv (read o (readVar o n) (i3 .0)) (λ v. ret (i3 .0, v)) b (i3 .1) w e (i3 .3) in
-      let r = ret-inv (i3 .0, i4 .0) b (i4 .1) w e (i4 .3) in
-      let sg = sig-sound o b y off off (i1 .0) (i1 .1) (i2 .0) (i2 .1) l (i1 .2) (i2 .2) in
-      let sn = single-inv (i2 .0) off b (i2 .1) (i3 .0) (i3 .1) (i3 .2) in
+      let i1 = bind-inv (readSig o) (spelt off) b off w e (sym (here-bind (λ p. readSig o >>= spelt p) b off) ∙ q) in
+      let i2 = bind-inv (accept (parse (i1 .0)) off) (typed off) b (i1 .1) w e (i1 .3) in
+      let i3 = bind-inv (single (i2 .0) off) holds b (i2 .1) w e (i2 .3) in
       let t : Ty = i3 .0 in
+      let at : ℕ = i3 .1 in
+      let i4 = bind-inv (c t) (λ v. ret (t, v)) b at w e (i3 .3) in
+      let v : B t = i4 .0 in
+      let r = ret-inv (t, v) b (i4 .1) w e (i4 .3) in
+      let sg = sig-sound o b y off off (i1 .0) (i1 .1) (i2 .0) (i2 .1) l (i1 .2) (i2 .2) in
+      let sn = single-inv (i2 .0) off b (i2 .1) t at (i3 .2) in
       let s : i1 .0 ≡ spell t = sg .1 ∙ ap spellAll (sn .0) ∙ spell-one t in
-      let a1 : At b off (sized o 1 (spell t)) (i3 .1) = subst (λ (z : ℕ). At b off (sized o 1 (spell t)) z) (sn .1) (subst (λ (z : List ℕ). At b off (sized o 1 z) (i2 .1)) s (sg .3)) in
+      let a0 : At b off (sized o 1 (spell t)) (i2 .1) = subst (λ (z : List ℕ). At b off (sized o 1 z) (i2 .1)) s (sg .3) in
+      let a1 : At b off (sized o 1 (spell t)) at = subst (λ (z : ℕ). At b off (sized o 1 (spell t)) z) (sn .1) a0 in
       let lg : T (legal t) = one-legal t (subst (λ (z : List Ty). T (allLegal z)) (sn .0) (sg .0)) in
-      let bd : i2 .1 ≤ length b = accept-local (parse (i1 .0)) off .bound b (i1 .1) (i2 .0) (i2 .1) (readSig-local o .bound b off (i1 .0) (i1 .1) l (i1 .2) .1) (i2 .2) .1 in
-      let vl = ih t .sound b y (i3 .1) (i4 .0) (i4 .1) (subst (λ (z : ℕ). z ≤ length b) (sn .1) bd) (i4 .2) in
-      let vl1 : At b (i3 .1) (enc o (encVar o n) t (i4 .0) (i3 .1)) e = subst (λ (z : ℕ). At b (i3 .1) (enc o (encVar o n) t (i4 .0) (i3 .1)) z) (r .1) (vl .1) in
-      let res : OkVar o (suc n) (t, i4 .0) off × At b off (encVar o (suc n) (t, i4 .0) off) e
+      let bs : i1 .1 ≤ length b = readSig-local o .bound b off (i1 .0) (i1 .1) l (i1 .2) .1 in
+      let bd : i2 .1 ≤ length b = accept-local (parse (i1 .0)) off .bound b (i1 .1) (i2 .0) (i2 .1) bs (i2 .2) .1 in
+      let vl = ih t .sound b y at v (i4 .1) (subst (λ (z : ℕ). z ≤ length b) (sn .1) bd) (i4 .2) in
+      let vl1 : At b at (f t v at) e = subst (λ (z : ℕ). At b at (f t v at) z) (r .1) (vl .1) in
+      let res : okOf (t, v) off × At b off (encOf (t, v) off) e
       = (
-        (lg, subst (λ (z : List ℕ). length z ≤ 255) s (sg .2), (tt, subst (Ok o (encVar o n) (OkVar o n) t (i4 .0)) (a1 .end) (vl .0))),
-        at-then b off (raw (sized o 1 (spell t))) (enc o (encVar o n) t (i4 .0)) (i3 .1) e a1 vl1,
+        (lg, subst (λ (z : List ℕ). length z ≤ 255) s (sg .2), (tt, subst (k t v) (a1 .end) (vl .0))),
+        at-then b off (raw (sized o 1 (spell t))) (f t v) at e a1 vl1,
       ) in
-      subst (λ (z : Var (suc n)). OkVar o (suc n) z off × At b off (encVar o (suc n) z off) e) (r .0) res
+      subst (λ (z : (t : Ty) × B t). okOf z off × At b off (encOf z off) e) (r .0) res
 
-  var-complete : (b : List ℕ) (off : ℕ) (w : Var (suc n)) (e : ℕ) → OkVar o (suc n) w off → At b off (encVar o (suc n) w off) e → e ≤ length b
-      → readVar o (suc n) b off ≡ got w e
-  unfolding readVar encVar OkVar bare ret
-  var-complete b off w e k q l =
+  var-complete : (b : List ℕ) (off : ℕ) (w : (t : Ty) × B t) (e : ℕ) → okOf w off → At b off (encOf w off) e → e ≤ length b
+      → variantOf o c b off ≡ got w e
+  unfolding variantOf bare ret
+  var-complete b off w e g q l =
       let t : Ty = w .0 in
-      let sp = then-at b off (raw (sized o 1 (spell t))) (enc o (encVar o n) t (w .1)) e q in
+      let sp = then-at b off (raw (sized o 1 (spell t))) (f t (w .1)) e q in
       let m : ℕ = off + length (sized o 1 (spell t)) in
       let s1 : spell t ≡ spellAll (t ∷ []) = sym (spell-one t) in
-      let sg = sig-complete o b off off (t ∷ []) m (legal-one t (k .0)) (subst (λ (z : List ℕ). length z ≤ 255) s1 (k .1)) (subst (λ (z : List ℕ). At b off (sized o 1 z) m) s1 (sp .0)) (mid-le b _ _ e (sp .1) l) in
-      here-bind (λ p. readSig o >>= rest2 p) b off
-      ∙ bind-got (readSig o) (rest2 off) b off (spellAll (t ∷ [])) m (sg .0)
-      ∙ bind-got (accept (parse (spellAll (t ∷ []))) off) (rest3 off) b m (t ∷ []) m (sg .1)
-      ∙ bind-got (single (t ∷ []) off) rest4 b m t m (single-got t off b m)
-      ∙ bind-got (read o (readVar o n) t) (λ v. ret (t, v)) b m (w .1) e (ih t .complete b m (w .1) e (k .2 .1) (sp .1) l)
+      let sg = sig-complete o b off off (t ∷ []) m (legal-one t (g .0)) (subst (λ (z : List ℕ). length z ≤ 255) s1 (g .1))
+      (subst (λ (z : List ℕ). At b off (sized o 1 z) m) s1 (sp .0)) (mid-le b _ _ e (sp .1) l) in
+      here-bind (λ p. readSig o >>= spelt p) b off
+      ∙ bind-got (readSig o) (spelt off) b off (spellAll (t ∷ [])) m (sg .0)
+      ∙ bind-got (accept (parse (spellAll (t ∷ []))) off) (typed off) b m (t ∷ []) m (sg .1)
+      ∙ bind-got (single (t ∷ []) off) holds b m t m (single-got t off b m)
+      ∙ bind-got (c t) (λ v. ret (t, v)) b m (w .1) e (ih t .complete b m (w .1) e (g .2 .1) (sp .1) l)
+
+  pub heads : Meets (variantOf o c) (λ w. encOf w) (λ w. okOf w)
+  heads = record { sound = var-sound; complete = var-complete }
 
 -- a 17th variant: nothing encodes it, and nothing is accepted
 var-zero : (o : Order) → Meets (readVar o zero) (λ w. encVar o zero w) (λ w. OkVar o zero w)
@@ -280,12 +262,15 @@ var-zero o = record {
   complete = λ b off v e k t l. absurd v;
 }
 
+var-suc : (o : Order) (n : ℕ) → Meets (readVar o n) (λ w. encVar o n w) (λ w. OkVar o n w)
+    → Meets (readVar o (suc n)) (λ w. encVar o (suc n) w) (λ w. OkVar o (suc n) w)
+unfolding readVar encVar OkVar
+var-suc o n h = heads o (λ e. read o (readVar o n) e) (λ t v. enc o (encVar o n) t v) (λ t v. Ok o (encVar o n) (OkVar o n) t v)
+    (values o (readVar o n) (λ w. encVar o n w) (λ w. OkVar o n w) h (readVar-local o n) (neVar o n))
+
 pub variants : (o : Order) (n : ℕ) → Meets (readVar o n) (λ w. encVar o n w) (λ w. OkVar o n w)
 variants o zero = var-zero o
-variants o (suc n) =
-    let ih : (t : Ty) → Meets (read o (readVar o n) t) (λ v. enc o (encVar o n) t v) (λ v. Ok o (encVar o n) (OkVar o n) t v)
-    = values o (readVar o n) (λ w. encVar o n w) (λ w. OkVar o n w) (variants o n) (readVar-local o n) (neVar o n) in
-    record { sound = var-sound o n ih; complete = var-complete o n ih }
+variants o (suc n) = var-suc o n (variants o n)
 
 pub top-meets : (o : Order) (t : Ty) → Meets (readTop o t) (λ v. encode o t v) (λ v. Fits o t v)
 unfolding readTop encode Fits

@@ -1,5 +1,7 @@
 -- Document 01, "When the relay says no": the number of each refusal, and what a refusal is.
 use Prim.Native.Nat.{ℕ}
+use mathlib.Core.Bool.{Bool, _||_}
+use lib.Dec.{eqb}
 use Rattle.meaning.specs.declared.Fault.{Fault}
 use Rattle.meaning.specs.declared.Fault.the-variants.{BadOffset, NotEnoughBytes, NotEnoughBytesForCollection, PaddingContainedData, InvalidBoolean, InvalidUtf8, StringContainsNullByte, MissingTerminator, InvalidObjectPath, InvalidSignature, EmptySignature, EmptyStruct, SignatureTooLong, NestingTooDeep, WrongSignature, VariantTooDeep, InvalidByteOrder, InvalidMessageType, NoSignature, InvalidHeaderField, InvalidHeaderFields, BodyLeft, NoRoom, BadAlignment, TextTooLong, BadArgument}
 use Rattle.meaning.specs.declared.Refusal.{Refusal}
@@ -33,6 +35,14 @@ numberOf BadAlignment = 24
 numberOf TextTooLong = 25
 numberOf BadArgument = 26
 
+-- "Too short" means 2 and 3
+abbrev pub isShort : Fault → Bool
+isShort f = eqb (numberOf f) 2 || eqb (numberOf f) 3
+
 -- "A refusal is a number and a position, and no value"
 abbrev pub refusal : Fault → ℕ → Refusal
 refusal f p = record { fault = f; place = record { 0 = p } }
+
+-- the same refusal at another position: every other part of it is kept
+abbrev pub moved : ℕ → Refusal → Refusal
+moved p x = record { fault = x .fault; place = record { 0 = p } }

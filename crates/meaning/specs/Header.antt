@@ -16,39 +16,51 @@ use Rattle.meaning.specs.Types.{fix, str, path, sig, base, arr, dict, st
 use Rattle.meaning.specs.Message.{Field, encField, text, Message, bodyAt, bodyOf}
 use Rattle.meaning.specs.ReadMessage.{readMessage}
 
--- a text's entry: its bytes are the last of the field that begins at off, but for the zero after them
-abbrev pub textEntry : Order → Field → ℕ → List ℕ → Entry
-textEntry o f off s = Text (record { 0 = off + length (encField o f off) - 1 - length s }) (record { 0 = length s })
+-- a text's entry: its bytes are the last of a field that ends at e, but for the zero after them
+abbrev pub textEntry : ℕ → List ℕ → Entry
+textEntry e s = Text (record { 0 = e - 1 - length s }) (record { 0 = length s })
 
--- "each absent, a number, or place and length"
-abbrev pub entryAs : Order → Field → ℕ → Var 16 → Entry
-entryAs o f off (base (fix c), v) = Number v
-entryAs o f off (base str, v) = textEntry o f off v
-entryAs o f off (base path, v) = textEntry o f off v
-entryAs o f off (base sig, v) = textEntry o f off v
-entryAs o f off (arr e, v) = Absent
-entryAs o f off (dict w k e, v) = Absent
-entryAs o f off (struct fs, v) = Absent
-entryAs o f off (variant, v) = Absent
+-- "each absent, a number, or place and length": what the header keeps of a field that ends at e
+abbrev pub entryAs : ℕ → Var 16 → Entry
+entryAs e (base (fix c), v) = Number v
+entryAs e (base str, v) = textEntry e v
+entryAs e (base path, v) = textEntry e v
+entryAs e (base sig, v) = textEntry e v
+entryAs e (arr t, v) = Absent
+entryAs e (dict w k t, v) = Absent
+entryAs e (struct fs, v) = Absent
+entryAs e (variant, v) = Absent
+
+-- where the field f that begins at off ends
+abbrev pub endOf : Order → Field → ℕ → ℕ
+endOf o f off = off + length (encField o f off)
 
 -- the entry of the first field with the code, among fields that begin at off
 unfoldable pub entry : Order → ℕ → List Field → ℕ → Entry
 entry o c [] off = Absent
-entry o c (f ∷ fs) off = elim (eqb (f .0) c) [ true ↦ entryAs o f off (f .1) | false ↦ entry o c fs (off + length (encField o f off)) ]
+entry o c (f ∷ fs) off = elim (eqb (f .0) c) [ true ↦ entryAs (endOf o f off) (f .1) | false ↦ entry o c fs (endOf o f off) ]
 
--- "one record of nine entries": the fields begin at byte 16
-abbrev pub fieldsOf : Message → Fields
-fieldsOf m = record {
-  object = entry (m .fixed .order) 1 (m .fields) 16;
-  interface = entry (m .fixed .order) 2 (m .fields) 16;
-  member = entry (m .fixed .order) 3 (m .fields) 16;
-  «error_name» = entry (m .fixed .order) 4 (m .fields) 16;
-  «response_serial» = entry (m .fixed .order) 5 (m .fields) 16;
-  destination = entry (m .fixed .order) 6 (m .fields) 16;
-  sender = entry (m .fixed .order) 7 (m .fields) 16;
-  signature = entry (m .fixed .order) 8 (m .fields) 16;
-  «num_fds» = entry (m .fixed .order) 9 (m .fields) 16;
+-- "one record of nine entries", each by its code
+abbrev pub fieldsBy : (ℕ → Entry) → Fields
+fieldsBy e = record {
+  object = e 1;
+  interface = e 2;
+  member = e 3;
+  «error_name» = e 4;
+  «response_serial» = e 5;
+  destination = e 6;
+  sender = e 7;
+  signature = e 8;
+  «num_fds» = e 9;
 }
+
+-- the nine entries of fields that begin at off
+abbrev pub fieldsFrom : Order → List Field → ℕ → Fields
+fieldsFrom o fs off = fieldsBy (λ c. entry o c fs off)
+
+-- the fields of a message begin at byte 16
+abbrev pub fieldsOf : Message → Fields
+fieldsOf m = fieldsFrom (m .fixed .order) (m .fields) 16
 
 -- the header of a message of n bytes
 abbrev pub headerOf : Message → ℕ → Header

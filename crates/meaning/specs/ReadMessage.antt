@@ -4,40 +4,33 @@ use mathlib.Core.Bool.{Bool, true, false, _&&_, _||_}
 use mathlib.Core.List.{List, [], _∷_, _++_}
 use lib.ListN.{length, take, drop, getD}
 use lib.Dec.{leb, eqb}
-use Rattle.meaning.specs.Reader.{Res, got, fault, stop, R, ret, here, fail, _>>=_, _>>_, check, bytes, many}
+use Rattle.meaning.specs.Reader.{Res, got, fault, stop, R, ret, here, fail, _>>=_, _>>_, check, bytes, inside, many}
 use Rattle.meaning.specs.Types.{Base, fix, Ty, base, arr, dict, struct, variant, Of, Var, Value}
 use Rattle.meaning.specs.Signature.{code, parse, Parsed, types, refused}
 use Rattle.meaning.specs.Number.{load, gap}
 use Rattle.meaning.specs.Text.{pick, between}
-use Rattle.meaning.specs.ReadValue.{padding, readSig, accept, lengthR, pairR, read, readVar, readTop, checkedOf}
+use Rattle.meaning.specs.ReadValue.{padding, readSig, accept, lengthR, pairR, andR, read, readVar, readTop, checkedOf}
 use Rattle.meaning.specs.Message.{Wants, nothing, exactly, anything, wants, Field, complete, text, bodySignature, Values, Fixed, Message}
 use Rattle.meaning.specs.declared.MessageType.{MessageType}
 use Rattle.meaning.specs.declared.MessageType.the-variants.{Call, Reply, Error, Signal}
 use Rattle.meaning.specs.declared.Checked.{Checked}
-use Rattle.meaning.specs.declared.Fault.the-variants.{NotEnoughBytes, WrongSignature, InvalidByteOrder, InvalidMessageType, NoSignature, InvalidHeaderField, InvalidHeaderFields, BodyLeft}
+use Rattle.meaning.specs.declared.Fault.the-variants.{WrongSignature, InvalidByteOrder, InvalidMessageType, NoSignature, InvalidHeaderField, InvalidHeaderFields, BodyLeft}
+use Rattle.meaning.specs.Faults.{moved}
 use Rattle.meaning.specs.declared.Order.{Order}
 use Rattle.meaning.specs.declared.Order.the-variants.{Little, Big}
 
--- Three more combinators.
+-- Two more combinators.
 -- r, with its refusals at position 0: "Faults before the body's values have position 0"
 abbrev pub toZero : {A : Type 0} → Res A → Res A
 toZero (got v e) = got v e
-toZero (fault x) = stop (x .fault) 0
+toZero (fault x) = fault (moved 0 x)
 
 unfoldable pub atZero : {A : Type 0} → R A → R A
 atZero r b off = toZero (r b off)
 
--- r on the next n bytes, seeing nothing beyond; too few: 2 at 0
-unfoldable pub inside : {A : Type 0} → ℕ → R A → R A
-inside n r b off = elim (leb (off + n) (length b)) [ true ↦ r (take (off + n) b) off | false ↦ stop NotEnoughBytes 0 ]
-
 -- nothing more is seen; else 22: "body bytes remain after its last value", at "the first unread byte"
 unfoldable pub ended : R (Unit {0})
 ended b off = elim (leb (length b) off) [ true ↦ got tt off | false ↦ stop BodyLeft off ]
-
--- one thing and then another, which rests on it
-unfoldable pub andR : {A : Type 0} {B : A → Type 0} → R A → ((x : A) → R (B x)) → R ((x : A) × B x)
-andR r s = r >>= λ x. s x >>= λ y. ret (x, y)
 
 -- The first 12 bytes: byte order, type, flags, version, length of the body, serial
 abbrev pub isMark : ℕ → Bool

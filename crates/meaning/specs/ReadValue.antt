@@ -15,7 +15,7 @@ use Rattle.meaning.specs.declared.Fault.the-variants.{BadOffset, NotEnou
 use Rattle.meaning.specs.declared.Checked.{Checked}
 use Rattle.meaning.specs.declared.Checked.the-variants.{Accepted, Refused}
 use Rattle.meaning.specs.declared.Counted.{Counted}
-use Rattle.meaning.specs.declared.Counted.the-variants.{Types, Refused as Uncounted}
+use Rattle.meaning.specs.declared.Counted.the-variants as counted
 use Rattle.meaning.specs.Faults.{refusal}
 use Rattle.meaning.specs.declared.Order.{Order}
 
@@ -114,16 +114,24 @@ unfoldable pub lengthR : Order → R ℕ
 lengthR o = here >>= λ p. bytes 4 p >>= λ l. ret (load o l)
 
 -- "contents against the bytes left (3, after the length field); padding to the element, not counted in the length (2 or 4, after the length
--- field); contents again (3, at the first element); then the elements, which see nothing beyond the array's end"
-unfoldable pub countedR : {A : Type 0} → Order → ℕ → ℕ → R A → R (List A)
-countedR o a w r = lengthR o >>= λ n. ahead n (padding a >> within n (elements n w r))
+-- field); contents again (3, at the first element); then the elements, which see nothing beyond the array's end": c n reads those n bytes
+abbrev pub contentsOf : {A : Type 0} → ℕ → (ℕ → R A) → ℕ → R A
+contentsOf a c n = ahead n (padding a >> within n (c n))
 
--- "Array and dict: align 4 (2 or 4, before the padding)"
+-- "Array and dict: align 4 (2 or 4, before the padding)": their head, and c for what is done with the contents, by their length
+unfoldable pub arrayOf : {A : Type 0} → Order → ℕ → (ℕ → R A) → R A
+arrayOf o a c = padding 4 >> (lengthR o >>= λ n. contentsOf a c n)
+
+-- an array whose elements, aligned to a, are read by r
 unfoldable pub arrayR : {A : Type 0} → Order → ℕ → ℕ → R A → R (List A)
-arrayR o a w r = padding 4 >> countedR o a w r
+arrayR o a w r = arrayOf o a (λ n. elements n w r)
 
 unfoldable pub pairR : {A B : Type 0} → R A → R B → R (A × B)
 pairR r s = r >>= λ x. s >>= λ y. ret (x, y)
+
+-- one thing and then another, which rests on it
+unfoldable pub andR : {A : Type 0} {B : A → Type 0} → R A → ((x : A) → R (B x)) → R ((x : A) × B x)
+andR r s = r >>= λ x. s x >>= λ y. ret (x, y)
 
 -- a value of each type, where readW reads a variant. "Struct: align 8, fields in turn; a dict entry the same, key then value"
 module _ (o : Order) {W : Type 0} (readW : R W) where
@@ -145,16 +153,20 @@ single [] p = fail EmptySignature p
 single (e ∷ []) p = ret e
 single (e ∷ d ∷ ds) p = fail WrongSignature p
 
--- "Variant: 16, then signature, grammar, 15, all at its own offset; then the value". n variants may still stand within one another
-unfoldable pub readVar : Order → (n : ℕ) → R (Var n)
-readVar o zero = here >>= λ p. fail VariantTooDeep p
-readVar o (suc n) = do
+-- "signature, grammar, 15, all at its own offset; then the value": a variant's head, and c for what is done with its contents, by their type
+unfoldable pub variantOf : {B : Ty → Type 0} → Order → ((e : Ty) → R (B e)) → R ((e : Ty) × B e)
+variantOf o c = do
   p ← here
   s ← readSig o
   ts ← accept (parse s) p
   e ← single ts p
-  v ← read o (readVar o n) e
+  v ← c e
   ret (e, v)
+
+-- "Variant: 16, then" its head and its value. n variants may still stand within one another
+unfoldable pub readVar : Order → (n : ℕ) → R (Var n)
+readVar o zero = here >>= λ p. fail VariantTooDeep p
+readVar o (suc n) = variantOf o (λ e. read o (readVar o n) e)
 
 -- a value of a type that a caller named: 16 variants may stand within one another
 unfoldable pub readTop : Order → (t : Ty) → R (Value t)
@@ -192,9 +204,9 @@ checkValue o s b off = elim (onlyOne (parse s)) [ the t ↦ checkAt (readTop o t
 
 -- "A bare signature check answers the number of types, or a refusal at position 0"; "Above 255 bytes 13; empty 11"
 abbrev pub countedOf : Parsed → Counted
-countedOf (types ts) = Types (length ts)
-countedOf (refused k) = Uncounted (refusal k 0)
+countedOf (types ts) = counted.Types (length ts)
+countedOf (refused k) = counted.Refused (refusal k 0)
 
 unfoldable pub checkSignature : List ℕ → Counted
-checkSignature [] = Uncounted (refusal EmptySignature 0)
+checkSignature [] = counted.Refused (refusal EmptySignature 0)
 checkSignature (c ∷ cs) = countedOf (parse (c ∷ cs))

@@ -61,9 +61,17 @@ bytes n p b off = elim (leb (off + n) (length b)) [ true ↦ got (take n (drop o
 unfoldable pub ahead : {A : Type 0} → ℕ → R A → R A
 ahead n r b off = elim (leb (off + n) (length b)) [ true ↦ r b off | false ↦ stop NotEnoughBytesForCollection off ]
 
--- r on the next n bytes, seeing nothing beyond; too few: 3 here
-unfoldable pub within : {A : Type 0} → ℕ → R A → R A
-within n r b off = elim (leb (off + n) (length b)) [ true ↦ r (take (off + n) b) off | false ↦ stop NotEnoughBytesForCollection off ]
+-- r on the next n bytes, seeing nothing beyond; too few: the refusal and the position given
+unfoldable pub window : {A : Type 0} → Fault → (ℕ → ℕ) → ℕ → R A → R A
+window k at n r b off = elim (leb (off + n) (length b)) [ true ↦ r (take (off + n) b) off | false ↦ stop k (at off) ]
+
+-- the contents of an array: 3 here
+abbrev pub within : {A : Type 0} → ℕ → R A → R A
+within n r = window NotEnoughBytesForCollection (λ p. p) n r
+
+-- the parts of a message: 2 at 0
+abbrev pub inside : {A : Type 0} → ℕ → R A → R A
+inside n r = window NotEnoughBytes (λ p. 0) n r
 
 -- r again and again up to the end of what is seen; the number bounds the rounds (each takes a byte at least)
 unfoldable pub many : {A : Type 0} → ℕ → R A → R (List A)

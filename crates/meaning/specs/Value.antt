@@ -80,8 +80,12 @@ first a off = off + 4 + gap a (off + 4)
 unfoldable pub OkLength : ℕ → Type 0
 OkLength n = n < 256 ^ 4
 
+-- what stands behind a length field: good where it begins, and no longer than the field can say
+abbrev pub okContents : ℕ → Layout → Cond → Cond
+okContents a f k off = k (first a off) × OkLength (length (f (first a off)))
+
 abbrev pub okCounted : {A : Type 0} → ℕ → (A → Layout) → (A → Cond) → List A → Cond
-okCounted a f k vs off = Each f k vs (first a off) × OkLength (length (each f vs (first a off)))
+okCounted a f k vs = okContents a (each f vs) (Each f k vs)
 
 -- a value of each type, where encW lays out a variant. K1: a dict outside an array is laid out as one in an array
 module _ (o : Order) {W : Type 0} (encW : W → Layout) where

@@ -1,7 +1,7 @@
 // The words that every crate of the library speaks: byte order, places, lengths, refusals and answers.
 // What they mean stands in specs/.
 ghost use mathlib.Core.Path.{_≡_};
-ghost use Rattle.meaning.specs.Faults.{numberOf, refusal};
+ghost use Rattle.meaning.specs.Faults.{numberOf, refusal, moved};
 
 pub enum Order {
     Little,
@@ -184,5 +184,16 @@ pub fn refuse(fault: Fault, at: usize) -> Refusal
     Refusal {
         fault,
         place: Place(at),
+    }
+}
+
+// The same refusal at another place.
+pub fn moved(refusal: Refusal, to: usize) -> Refusal
+    ensures { λ r. ⌜ r ≡ moved to refusal ⌝ }
+{
+    let kept = refusal.fault;
+    Refusal {
+        fault: kept,
+        place: Place(to),
     }
 }

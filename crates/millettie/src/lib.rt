@@ -8,11 +8,13 @@ ghost use Rattle.meaning.specs.FixedValue.{readFixed};
 ghost use Rattle.meaning.specs.Writers.{writeAt, paddingBytes, integerBytes, stringBytes, signatureBytes};
 ghost use Rattle.lookup.specs.Found.{foundIn};
 ghost use Rattle.structs.specs.Answers.{orderOf, answerOf, countOf, writtenOf, readOf, partOf};
+ghost use Rattle.stream.specs.Next.{nextOf};
 ghost use Rattle.millettie.specs.Fixed.{fixedOf};
+ghost use Rattle.millettie.specs.Framed.{lengthIn, framedOf, interface};
 use meaning::FixedRead;
-use meaning::Length;
 use meaning::Order;
 use meaning::Place;
+use stream::Next;
 use structs::MtAnswer;
 use structs::MtHeader;
 use structs::MtPart;
@@ -24,6 +26,25 @@ pub struct MtFixed {
     pub answer: MtAnswer,
     pub kind: u8,
     pub bits: u64,
+}
+
+// What stands next in a stream: state 0 whole, 1 cut off, 2 refused.
+#[repr(C)]
+pub struct MtNext {
+    pub state: u64,
+    pub number: u64,
+    pub position: u64,
+    pub length: u64,
+}
+
+// The interface that include/millettie.h describes: MT_INTERFACE.
+const INTERFACE: u32 = 2;
+
+#[no_mangle]
+pub extern "C" fn mt_interface() -> u32
+    ensures { λ r. ⌜ r ≡ interface ⌝ }
+{
+    INTERFACE
 }
 
 #[no_mangle]
@@ -50,6 +71,28 @@ pub extern "C" fn mt_check_message(buf: &[u8]) -> MtAnswer
     ensures { λ r. ⌜ r ≡ answerOf (checkMessage (now (buf .entry))) ⌝ }
 {
     structs::of_checked(check_message::check_message(buf))
+}
+
+#[no_mangle]
+pub extern "C" fn mt_next_message(buf: &[u8]) -> MtNext
+    ensures { λ r. ⌜ r ≡ framedOf (nextOf (now (buf .entry))) ⌝ }
+{
+    match stream::next_message(buf) {
+        Next::Whole(header) => {
+            let length = header.length;
+            framed(0, length.0)
+        }
+        Next::Cut(wanted) => framed(1, wanted.0),
+        Next::Refused(refusal) => {
+            let answer = structs::refused(refusal);
+            MtNext {
+                state: 2,
+                number: answer.number,
+                position: answer.position,
+                length: 0,
+            }
+        }
+    }
 }
 
 #[no_mangle]
@@ -90,10 +133,7 @@ pub extern "C" fn mt_write_padding(buf: &mut [u8], place: usize, alignment: usiz
     ensures { λ r. ⌜ r ≡ writtenOf place (writeAt (paddingBytes alignment place) (now (buf .entry)) place .answer) ⌝ }
     ensures { λ r. ⌜ now (buf .exit) ≡ writeAt (paddingBytes alignment place) (now (buf .entry)) place .after ⌝ }
 {
-    structs::of_written(
-        place,
-        write::pad_to_align(Length(alignment), buf, Place(place)),
-    )
+    structs::of_written(place, write::pad_to_align(alignment, buf, Place(place)))
 }
 
 #[no_mangle]
@@ -146,4 +186,16 @@ pub extern "C" fn mt_write_signature(buf: &mut [u8], place: usize, sig: &[u8]) -
     ensures { λ r. ⌜ ((o : Order) → now (buf .exit) ≡ writeAt (signatureBytes o (now (sig .entry))) (now (buf .entry)) place .after) ⌝ }
 {
     structs::of_written(place, texts::write_signature(sig, buf, Place(place)))
+}
+
+// A length, and whether it is a whole message's.
+fn framed(state: u64, length: usize) -> MtNext
+    ensures { λ r. ⌜ r ≡ lengthIn state length ⌝ }
+{
+    MtNext {
+        state,
+        number: 0,
+        position: 0,
+        length: length as u64,
+    }
 }

@@ -8,8 +8,8 @@ use mathlib.Core.Path.{_≡_, refl, ap, sym, _∙_}
 use mathlib.Core.List.{List, [], _∷_}
 use lib.Dec.{leb, ltb, eqb}
 use lib.ListN.{length, take, drop, getD, set, length-drop, drop-of-length-le}
-use lib.Seq.{sets, drop-cons, take-all, take-length, length-sets, length-take-le}
-use borrow.Author.Tests.{ltb-true, leb-true, le-ltb, lt-ltb, le-leb, lt-leb}
+use lib.Seq.{sets, drop-cons, drop-drop, drop-set-lt, getD-drop, take-all, take-length, length-sets, length-take-le}
+use borrow.Author.Tests.{ltb-true, leb-true, le-ltb, lt-ltb, le-leb, lt-leb, eq-eqb, ne-eqb}
 use Rattle.question_lines.specs.Digits.{digitOf, allDigits, valueFrom, pairs}
 use Rattle.io.specs.Counts.{Counts}
 use Rattle.question_lines.specs.declared.Taken.{Taken}
@@ -49,6 +49,9 @@ pairs-turn l e s i h p =
     next s (2 * i) (omega arith) ∙ ap (λ (t : List ℕ). getD s (2 * i) 0 ∷ t) (next s (2 * i + 1) h) in
     rw (q, add-one i) (rw d at p)
 
+pub not-empty : (s : List ℕ) → (length s ≡ 0 → ⊥) → ltb 0 (length s) ≡ true
+not-empty s h = lt-ltb 0 (length s) (omega arith)
+
 both : (a b : Bool) → (a && b) ≡ true → (a ≡ true) × (b ≡ true)
 both true b p = (refl, p)
 both false b p = let z : _≡_ {A = ℕ} 0 1 = cc in absurd (omega arith)
@@ -80,6 +83,13 @@ from-on s n = take-all (length s - n) (drop n s) (simp length-drop (omega arith)
 pub nothing-left : (s : List ℕ) (m n : ℕ) → length s ≤ m → length s ≤ n → drop m s ≡ drop n s
 nothing-left s m n g h = rw (drop-of-length-le s {i = m} g, drop-of-length-le s {i = n} h)
 
+-- one or more pairs of bytes that the buffer has room for: what is left to test is that they are digits
+pub of-pairs : (s out : List ℕ) → (length s ≡ 1 → ⊥) → (length s ≡ 0 → ⊥) → length s % 2 ≡ 0 → length s / 2 ≤ length out
+    → takenOf s out ≡ unless (allDigits 16 s) out (record { answer = Bytes (length s / 2); after = sets out 0 (pairs s) })
+unfolding takenOf
+of-pairs s out one none even room =
+    simp (ne-eqb (length s) 1 one, not-empty s none, eq-eqb (length s % 2) 0 even, le-leb (length s / 2) (length out) room)
+
 -- the bytes that a word gives lie in the buffer, by the tests of `takenOf`
 module _ (n : ℕ) (xs out : List ℕ) where
   taken : Bool → Bool → Bool → Bool → Bool → Bool → Took
@@ -87,7 +97,8 @@ module _ (n : ℕ) (xs out : List ℕ) where
       cond one (unless dash out (record { answer = Bytes 0; after = out }))
       (unless some out (unless even out (unless room out (unless digits out (record { answer = Bytes n; after = sets out 0 xs })))))
 
-  within : (one dash some even room digits : Bool) (k : ℕ) → (room ≡ true → n ≤ length out) → Bytes k ≡ taken one dash some even room digits .answer → k ≤ length (taken one dash some even room digits .after)
+  within : (one dash some even room digits : Bool) (k : ℕ) → (room ≡ true → n ≤ length out)
+      → Bytes k ≡ taken one dash some even room digits .answer → k ≤ length (taken one dash some even room digits .after)
   unfolding taken
   within true true some even room digits k h p = let z : k ≡ 0 = cc in omega arith
   within true false some even room digits k h p = let z : _≡_ {A = ℕ} 0 1 = cc in absurd (omega arith)
@@ -101,6 +112,20 @@ pub taken-counts : (s out e : List ℕ) (k : ℕ) (r : Taken) → r ≡ takenOf 
 unfolding takenOf taken
 taken-counts s out e k r p q g =
     let h : k ≤ length (takenOf s out .after) =
-    within (length s / 2) (pairs s) out (eqb (length s) 1) (eqb (getD s 0 0) 45) (ltb 0 (length s)) (eqb (length s % 2) 0) (leb (length s / 2) (length out)) (allDigits 16 s) k (leb-true _ _) (sym g ∙ p) in
+    within (length s / 2) (pairs s) out (eqb (length s) 1) (eqb (getD s 0 0) 45) (ltb 0 (length s))
+    (eqb (length s % 2) 0) (leb (length s / 2) (length out)) (allDigits 16 s) k (leb-true _ _) (sym g ∙ p) in
     let l : k ≤ length e = rw q h in
     (l, sym (length-take-le k e l))
+
+-- a byte that is moved is still what it was, since only bytes before it were stored
+pub move-turn : (s s₀ e : List ℕ) (from count i : ℕ) → i < count → from + count ≤ length s₀
+    → drop i s ≡ drop i s₀ → sets s i (take (count - i) (drop (from + i) s₀)) ≡ e
+    → (drop (i + 1) (set s i (getD s (from + i) 0)) ≡ drop (i + 1) s₀)
+    × (sets (set s i (getD s (from + i) 0)) (i + 1) (take (count - (i + 1)) (drop (from + (i + 1)) s₀)) ≡ e)
+move-turn s s₀ e from count i h k p q =
+    let f : from + i ≡ i + from = omega arith in
+    let v : getD s (from + i) 0 ≡ getD s₀ (from + i) 0 = rw (f, ← getD-drop i s from 0, ← getD-drop i s₀ from 0, p) in
+    let r : drop (i + 1) s ≡ drop (i + 1) s₀ = rw (← drop-drop 1 i s, ← drop-drop 1 i s₀, p) in
+    let n : count - i ≡ suc (count - suc i) = omega arith in
+    let g : from + (i + 1) ≡ from + i + 1 = omega arith in
+    (drop-set-lt (i + 1) s i _ (omega arith) ∙ r, rw (v, g, add-one i) (rw (n, next s₀ (from + i) (omega arith)) at q))

@@ -1,8 +1,8 @@
 -- The words of a line, and what a word gives as a number or as bytes.
-use Prim.Native.Nat.{ℕ, zero, _+_, _/_, _%_, _^_}
+use Prim.Native.Nat.{ℕ, zero, _+_, _-_, _/_, _%_, _^_}
 use mathlib.Core.Bool.{Bool, true, false, _&&_, cond}
 use mathlib.Core.List.{List, [], _∷_}
-use lib.ListN.{length, getD}
+use lib.ListN.{length, take, drop, getD}
 use lib.Seq.{sets}
 use lib.Dec.{leb, ltb, eqb}
 use Rattle.bytes.specs.Bytes.{indexOf}
@@ -42,3 +42,7 @@ takenOf s out =
     (unless (leb (length s / 2) (length out)) out
     (unless (allDigits 16 s) out
     (record { answer = Bytes (length s / 2); after = sets out 0 (pairs s) })))))
+
+-- the bytes from one place to another are put at the front, and the others stay
+abbrev pub movedDown : ℕ → ℕ → List ℕ → List ℕ
+movedDown from to s = sets s 0 (take (to - from) (drop from s))

@@ -1,4 +1,4 @@
-// A line of text taken apart into words, numbers and bytes in hexadecimal.
+// What programs do with their input: a line of text taken apart into words, numbers and bytes in hexadecimal, and the parts of a buffer.
 ghost use mathlib.Core.Path.{_≡_};
 ghost use mathlib.Core.Bool.{true, cond};
 ghost use Prim.Native.Nat.{_+_, _*_, _^_, _≤_, _<_};
@@ -6,7 +6,7 @@ ghost use lib.Dec.{ltb};
 ghost use lib.ListN.{length, drop, take};
 ghost use lib.Seq.{sets};
 ghost use Rattle.question_lines.specs.Digits.{digitOf, allDigits, valueFrom, pairs};
-ghost use Rattle.question_lines.specs.Words.{wordEnd, occurrences, numberOf, takenOf};
+ghost use Rattle.question_lines.specs.Words.{wordEnd, occurrences, numberOf, takenOf, movedDown};
 
 pub enum Number {
     Is(u64),
@@ -153,4 +153,25 @@ pub fn bytes_of(s: &[u8], out: &mut [u8]) -> Taken
         return Taken::Bytes(size);
     }
     Taken::Bad
+}
+
+// The first bytes of a buffer; all of it where it has fewer.
+pub fn first(s: &[u8], n: usize) -> &[u8]
+    ensures { λ r. ⌜ now r ≡ take n (now (s .entry)) ⌝ }
+{
+    let all = s.len();
+    if n <= all { &s[..n] } else { &s[..all] }
+}
+
+// Moves the bytes from one place to another to the front.
+pub fn move_down(s: &mut [u8], from: usize, to: usize)
+    requires { ⌜ (from ≤ to) × (to ≤ length (now s)) ⌝ }
+    ensures { λ _. ⌜ now (s .exit) ≡ movedDown from to (now (s .entry)) ⌝ }
+{
+    let count = to - from;
+    let mut i = 0;
+    while i < count {
+        s[i] = s[from + i];
+        i += 1;
+    }
 }

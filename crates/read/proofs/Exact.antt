@@ -58,7 +58,10 @@ module _ (o : Order) (c : Fix) (b : List ℕ) (off : ℕ) (v : FixedValue) where
     where
       go : Cmp off (length b) → Got o c b off v
       go (isLe t l) = from-inv (baseR o (fix c) b off) refl (sym (within o (codeFix c ∷ []) b off c (size c) (names (codeFix c ∷ []) c refl refl) refl l) ∙ h)
-      go (isGt t l) = absurd (let z : Refused (refusal BadOffset off) ≡ Read v = outside o (codeFix c ∷ []) b off c (size c) (names (codeFix c ∷ []) c refl refl) refl l (refusal BadOffset off) refl ∙ h in let w : _≡_ {A = ℕ} 0 1 = cc in omega arith)
+      go (isGt t l) =
+          let n = outside o (codeFix c ∷ []) b off c (size c) (names (codeFix c ∷ []) c refl refl) refl l (refusal BadOffset off) refl in
+          let z : Refused (refusal BadOffset off) ≡ Read v = n ∙ h in
+          absurd (let w : _≡_ {A = ℕ} 0 1 = cc in omega arith)
 
 -- a double or a NaN that has these 64 bits
 abbrev pub HasBits : ℕ → FixedValue → Type 0

@@ -5,13 +5,13 @@ use mathlib.Core.Bool.{true}
 use mathlib.Core.List.{List, [], _∷_}
 use mathlib.Core.Path.{_≡_, refl, ap, sym, subst, _∙_}
 use lib.ListN.{length, getD}
-use Rattle.meaning.specs.Types.{Fix, byte, bool, i16, u16, i32, u32, i64, u64, dbl, fd, fix, str, path, sig, Ty, base, arr, dict, struct, variant, size}
+use Rattle.meaning.specs.Types.{Fix, byte, bool, i16, u16, i32, u32, i64, u64, dbl, fd, Base, fix, str, path, sig, Ty, base, arr, dict, struct, variant, size}
 use Rattle.meaning.specs.Signature.{codeFix, Tok, isBase, isArr, isVar, isOpen, isClose, isCurl, isUncurl, isBad, toks, find, putBase, put, step, run, Parsed, types, refused, parse, spell, spellAll, nest, allNest}
 use Rattle.meaning.specs.ReadValue.{the, onlyOne, valid}
 use Rattle.meaning.specs.FixedValue.{OptFix, theFix, notFix, onlyFix}
 use Rattle.meaning.proofs.SignatureLaws.{find-base, parse-sound}
-use Rattle.types.specs.Codes.{sizeCode, sizeTok}
-use Rattle.types.proofs.CodeLaws.{size-fix}
+use Rattle.types.specs.Codes.{onBase, sizeCode, sizeTok}
+use Rattle.types.proofs.CodeLaws.{size-fix, size-is-alignment}
 use Rattle.read.specs.Coded.{Coded, Holds}
 
 -- no two types have one code
@@ -25,18 +25,14 @@ abbrev pub named : List ℕ → OptFix
 named s = onlyFix (onlyOne (parse s))
 
 -- what a byte that is the whole signature names
+abbrev fixBase : Base → OptFix
+fixBase (fix c) = theFix c
+fixBase str = notFix
+fixBase path = notFix
+fixBase sig = notFix
+
 abbrev fixTok : Tok → OptFix
-fixTok (isBase (fix c)) = theFix c
-fixTok (isBase str) = notFix
-fixTok (isBase path) = notFix
-fixTok (isBase sig) = notFix
-fixTok isArr = notFix
-fixTok isVar = notFix
-fixTok isOpen = notFix
-fixTok isClose = notFix
-fixTok isCurl = notFix
-fixTok isUncurl = notFix
-fixTok isBad = notFix
+fixTok q = onBase fixBase notFix q
 
 one-byte : (x : ℕ) → named (x ∷ []) ≡ fixTok (find toks x)
 unfolding parse run step putBase put allNest nest
@@ -98,16 +94,7 @@ is-fixed x h = go (find toks x) refl
     go isBad e = absurd (h (ap sizeTok e))
 
 has-size : (c : Fix) → size c ≡ 0 → ⊥
-has-size byte h = omega arith
-has-size bool h = omega arith
-has-size i16 h = omega arith
-has-size u16 h = omega arith
-has-size i32 h = omega arith
-has-size u32 h = omega arith
-has-size i64 h = omega arith
-has-size u64 h = omega arith
-has-size dbl h = omega arith
-has-size fd h = omega arith
+has-size c h = rw h at (size-is-alignment c)
 
 pub size-of : (x : ℕ) (c : Fix) → x ≡ codeFix c → sizeCode x ≡ size c
 size-of x c e = ap sizeCode e ∙ size-fix c

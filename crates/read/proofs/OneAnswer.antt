@@ -7,8 +7,5 @@ use Rattle.read.proofs.bits.Reads as bits
 pub one-unmarshal-fixed : OneAnswer unmarshal-fixed.Learnt
 one-unmarshal-fixed κs a x y s t h k = both h k
 
-pub one-letter : OneAnswer letter.Learnt
-one-letter κs a x y s t h k = both h k
-
-pub one-bits : OneAnswer bits.Learnt
-one-bits κs a x y s t h k = both h k
+pub one-kind : OneAnswer letter.Learnt × OneAnswer bits.Learnt
+one-kind = (λ κs a x y s t h k. both h k, λ κs a x y s t h k. both h k)

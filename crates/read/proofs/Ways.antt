@@ -16,7 +16,7 @@ use Rattle.meaning.specs.declared.Order.{Order}
 use Rattle.meaning.specs.declared.Place.{Place}
 use Rattle.meaning.specs.declared.Refusal.{Refusal}
 use Rattle.meaning.specs.declared.Fault.the-variants.{BadOffset, NotEnoughBytes, InvalidBoolean, BadArgument}
-use Rattle.meaning.specs.declared.Reached.the-variants.{At, Refused as Stopped}
+use Rattle.meaning.specs.declared.Reached.the-variants as reached
 use Rattle.meaning.specs.declared.FixedValue.{FixedValue}
 use Rattle.meaning.specs.declared.FixedRead.{FixedRead}
 use Rattle.meaning.specs.declared.FixedRead.the-variants.{Read, Refused}
@@ -74,20 +74,20 @@ module _ (o : Order) (s b : List ℕ) (off : ℕ) where
     unfolding readFixed
     within l = rw (h, leb-true off (length b) l, readFixed)
 
-    stopped : (q : Res (Unit {0})) (x : Refusal) → Stopped x ≡ reachedOf q → q ≡ fault x
+    stopped : (q : Res (Unit {0})) (x : Refusal) → reached.Refused x ≡ reachedOf q → q ≡ fault x
     stopped (got v e) x z = absurd (let w : _≡_ {A = ℕ} 0 1 = cc in omega arith)
     stopped (fault y) x z = cc
 
-    reached : (q : Res (Unit {0})) (p : Place) → At p ≡ reachedOf q → q ≡ got tt (p .0)
-    reached (got v e) p z = let w : e ≡ p .0 = cc in ap (λ (m : ℕ). got tt m) w
-    reached (fault y) p z = absurd (let w : _≡_ {A = ℕ} 0 1 = cc in omega arith)
+    stood : (q : Res (Unit {0})) (p : Place) → reached.At p ≡ reachedOf q → q ≡ got tt (p .0)
+    stood (got v e) p z = let w : e ≡ p .0 = cc in ap (λ (m : ℕ). got tt m) w
+    stood (fault y) p z = absurd (let w : _≡_ {A = ℕ} 0 1 = cc in omega arith)
 
-    pub bad-padding : off ≤ length b → (x : Refusal) → Stopped x ≡ reachedOf (padding w (take (length b) b) off) → Refused x ≡ readFixed o s b off
+    pub bad-padding : off ≤ length b → (x : Refusal) → reached.Refused x ≡ reachedOf (padding w (take (length b) b) off) → Refused x ≡ readFixed o s b off
     unfolding baseR
     bad-padding l x e =
         sym (within l ∙ ap (fixedFrom c) (bind-fault (padding (size c)) (λ v. bareR o (fix c)) b off x (stopped (padding (size c) b off) x (rw (take-length, wide) at e))))
 
-    pub behind : off ≤ length b → (p : Place) → At p ≡ reachedOf (padding w (take (length b) b) off) → (r : FixedRead) → r ≡ fixedFrom c (readFix o c b (p .0)) → r ≡ readFixed o s b off
+    pub behind : off ≤ length b → (p : Place) → reached.At p ≡ reachedOf (padding w (take (length b) b) off) → (r : FixedRead) → r ≡ fixedFrom c (readFix o c b (p .0)) → r ≡ readFixed o s b off
     unfolding baseR bareR
     behind l p e r q =
-        q ∙ sym (within l ∙ ap (fixedFrom c) (bind-got (padding (size c)) (λ v. bareR o (fix c)) b off tt (p .0) (reached (padding (size c) b off) p (rw (take-length, wide) at e))))
+        q ∙ sym (within l ∙ ap (fixedFrom c) (bind-got (padding (size c)) (λ v. bareR o (fix c)) b off tt (p .0) (stood (padding (size c) b off) p (rw (take-length, wide) at e))))

@@ -1,14 +1,11 @@
 // The value reader: a value of fixed width with its kind (document 01, port order 6).
 ghost use mathlib.Core.Path.{_≡_};
-ghost use Prim.Native.Nat.{_+_, _≤_};
-ghost use lib.Dec.{T};
+ghost use Prim.Native.Nat.{_≤_};
 ghost use lib.ListN.{length};
 ghost use Rattle.meaning.specs.Types.{Fix};
 ghost use Rattle.meaning.specs.Signature.{codeFix};
 ghost use Rattle.meaning.specs.ReadValue.{valid as validOf, readFix};
 ghost use Rattle.meaning.specs.FixedValue.{signed, double as doubleOf, fixedValue, fixedFrom, readFixed};
-ghost use Rattle.meaning.specs.Writers.{isAlignment};
-ghost use Rattle.util.specs.Loaded.{Loaded};
 ghost use Rattle.read.specs.Coded.{Coded, Holds};
 ghost use Rattle.read.specs.Bits.{letterOf, extended as extendedOf, doubleBits, bitsOf};
 use meaning::Fault;
@@ -88,21 +85,6 @@ fn valid(code: u8, bits: u64) -> bool
     if code == b'b' { bits < 2 } else { true }
 }
 
-fn load(order: Order, buf: &[u8], at: usize, width: usize) -> u64
-    requires { ⌜ (at + width ≤ length (now buf)) × T (isAlignment width) ⌝ }
-    ensures { λ r. ⌜ Loaded order width (now (buf .entry)) at r ⌝ }
-{
-    if width == 8 {
-        integers::load64(order, buf, at)
-    } else if width == 4 {
-        integers::load32(order, buf, at)
-    } else if width == 2 {
-        integers::load16(order, buf, at)
-    } else {
-        buf[at] as u64
-    }
-}
-
 // The value behind its padding.
 fn bare(order: Order, at: usize, buf: &[u8], code: u8) -> FixedRead
     requires { ⌜ (at ≤ length (now buf)) × Coded code ⌝ }
@@ -112,7 +94,7 @@ fn bare(order: Order, at: usize, buf: &[u8], code: u8) -> FixedRead
     if buf.len() - at < width {
         return FixedRead::Refused(meaning::refuse(Fault::NotEnoughBytes, at));
     }
-    let bits = load(order, buf, at, width);
+    let bits = integers::load(order, width, buf, at);
     if valid(code, bits) {
         FixedRead::Read(value(code, bits))
     } else {

@@ -60,23 +60,18 @@ fn order_of(word: &[u8]) -> Order {
     }
 }
 
-// The first bytes of a buffer.
-fn first(buf: &[u8], n: usize) -> &[u8] {
-    if n <= buf.len() { &buf[..n] } else { buf }
-}
-
 fn of_signature(words: &[u8], buf: &mut [u8]) -> Said {
     let Taken::Bytes(n) = question_lines::bytes_of(question_lines::head(words), buf) else {
         return Said::NoQuestion;
     };
-    counted(signature::validate_signature(first(buf, n)))
+    counted(signature::validate_signature(question_lines::first(buf, n)))
 }
 
 fn of_message(words: &[u8], buf: &mut [u8]) -> Said {
     let Taken::Bytes(n) = question_lines::bytes_of(question_lines::head(words), buf) else {
         return Said::NoQuestion;
     };
-    checked(check_message::check_message(first(buf, n)))
+    checked(check_message::check_message(question_lines::first(buf, n)))
 }
 
 // An offset, a signature and bytes.
@@ -97,8 +92,8 @@ fn of_value(order: Order, words: &[u8], sig: &mut [u8], buf: &mut [u8]) -> Said 
     checked(validate_raw::validate_marshalled(
         order,
         Place(offset as usize),
-        first(buf, k),
-        first(sig, n),
+        question_lines::first(buf, k),
+        question_lines::first(sig, n),
     ))
 }
 

@@ -1,6 +1,6 @@
--- Which bytes are codes of basic types: a test that antt computes over a range of bytes, carried to each.
-use Prim.Native.Nat.{ℕ, _+_, _-_, _<_, _≤_}
-use mathlib.Core.Path.{_≡_, refl, subst}
+-- Which bytes are codes of basic types: tests that antt computes over all bytes, carried to each.
+use Prim.Native.Nat.{ℕ, _<_}
+use mathlib.Core.Path.{_≡_, refl}
 use mathlib.Core.Bool.{Bool, true, false, not, _||_}
 use mathlib.Core.Logic.{_⊎_, inl, inr}
 use native.Mathlib.Omega.{arith}
@@ -9,6 +9,7 @@ use borrow.Author.Tests.{ne-eqb}
 use Rattle.meaning.specs.Types.{Base, variant}
 use Rattle.meaning.specs.Signature.{Tok, isBase, isArr, isVar, isOpen, isClose, isCurl, isUncurl, isBad, toks, find, Stack, open0, inArr, bad, put, putBase, begin, curl, close, uncurl, step}
 use Rattle.meaning.specs.declared.Fault.the-variants.{InvalidSignature}
+use Rattle.types.specs.Codes.{alignCode}
 use Rattle.types.proofs.Rule.{passes, passed}
 use Rattle.signature.specs.Codes.{baseTok, keyTok}
 
@@ -22,29 +23,25 @@ same-is true false h = absurd h
 same-is false true h = absurd h
 same-is false false h = refl
 
--- b, d and q have no neighbour that is a basic type's code
-abbrev pub Lone : ℕ → Type 0
-Lone x = (x ≡ 98) ⊎ (x ≡ 100) ⊎ (x ≡ 113)
+-- the codes of the types that are not basic
+abbrev pub Composite : ℕ → Type 0
+Composite x = (x ≡ 40) ⊎ (x ≡ 97) ⊎ (x ≡ 118)
 
-abbrev lone : ℕ → Bool
-lone x = eqb x 98 || (eqb x 100 || eqb x 113)
-
-pub lone-code : {x : ℕ} → Lone x → baseTok (find toks x) ≡ true
+pub composite-code : {x : ℕ} → Composite x → baseTok (find toks x) ≡ false
 unfolding find
-lone-code (inl e) = rw e
-lone-code (inr (inl e)) = rw e
-lone-code (inr (inr e)) = rw e
+composite-code (inl e) = rw e
+composite-code (inr (inl e)) = rw e
+composite-code (inr (inr e)) = rw e
 
-unfoldable pub agrees : Bool → ℕ → ℕ → Bool
-agrees b a k = lone (a + k) || same b (baseTok (find toks (a + k)))
+tabled : ℕ → Bool
+tabled x = eqb x 40 || (eqb x 97 || (eqb x 118 || same (not (eqb (alignCode x) 0)) (baseTok (find toks x))))
 
--- the bytes from a on, n of them, are codes or not but for the lone ones
-pub between : (b : Bool) (a n x : ℕ) → T (passes (agrees b a) n) → a ≤ x → x < a + n → (Lone x → ⊥) → baseTok (find toks x) ≡ b
-unfolding agrees
-between b a n x t l h f =
-    let e : a + (x - a) ≡ x = omega arith in
-    let g : T (lone x || same b (baseTok (find toks x))) = subst (λ (y : ℕ). T (lone y || same b (baseTok (find toks y)))) e (passed (agrees b a) n t (x - a) (omega arith)) in
-    same-is b (baseTok (find toks x)) (simp (ne-eqb x 98 (λ q. f (inl q)), ne-eqb x 100 (λ q. f (inr (inl q))), ne-eqb x 113 (λ q. f (inr (inr q)))) at g)
+-- of the others, those that the table has an alignment for
+pub table-code : (x : ℕ) → x < 256 → (Composite x → ⊥) → baseTok (find toks x) ≡ not (eqb (alignCode x) 0)
+unfolding tabled passes find alignCode
+table-code x h n =
+    let t = simp (ne-eqb x 40 (λ e. n (inl e)), ne-eqb x 97 (λ e. n (inr (inl e))), ne-eqb x 118 (λ e. n (inr (inr e)))) at (passed tabled 256 tt x h) in
+    same-is (not (eqb (alignCode x) 0)) (baseTok (find toks x)) t
 
 -- every basic type but Boolean is a key
 keyed : ℕ → Bool

@@ -14,7 +14,7 @@ use Rattle.meaning.specs.declared.Fault.the-variants.{InvalidSignature, EmptySt
 use Rattle.signature.specs.declared.State.{State}
 use Rattle.signature.specs.declared.Moved.{Moved}
 use Rattle.signature.specs.declared.Moved.the-variants.{To, Bad}
-use Rattle.signature.specs.Marks.{mark, height, structsIn, arraysIn, wholeIn, fineIn, Held, Stands, Follows, Takes, Leaf, Whole, Begins, Goes, After}
+use Rattle.signature.specs.Marks.{mark, height, structsIn, arraysIn, wholeIn, fineIn, Held, Stands, Follows, Takes, Leaf, Whole, Ready, WholeReady, Begins, Goes, After}
 use Rattle.signature.proofs.Nesting.{nest-array, nest-struct, nest-all, nest-fields}
 
 -- the last mark says what was opened last
@@ -153,7 +153,8 @@ unfolding Handler Held height structsIn arraysIn wholeIn fineIn put
 unarray {x} {m} {o} w e = by-mark (λ k. x ≡ put k (w .type) → Takes k (w .type) m o → Closes x m o (o .arrays) (placed o (o .top - 1) (o .arrays - 1))) (w .stack) 6 (the-mark (w .takes .stands) e)
     (λ k i h.
     let s = h .stands in
-    closes-below k (arr (w .type)) m i (omega (arith, s .top)) (omega (arith, s .arrays)) (s .long) (s .held .1) (omega (arith, s .top)) (s .structs) (omega (arith, s .arrays)) (s .types) _ (nest-array (w .type) (structsIn k) (arraysIn k)) (h .fine))
+    closes-below k (arr (w .type)) m i (omega (arith, s .top)) (omega (arith, s .arrays)) (s .long) (s .held .1) (omega (arith, s .top)) (s .structs)
+    (omega (arith, s .arrays)) (s .types) _ (nest-array (w .type) (structsIn k) (arraysIn k)) (h .fine))
     (w .is) (w .takes)
 
 -- the last mark takes the type
@@ -222,6 +223,10 @@ module _ {x : Step} {m : List ℕ} {o : State} (n : ℕ) (w : Whole x m o) where
 -- a step that is refused
 pub refuses : {x : Step} {f : Fault} (m : List ℕ) (n : ℕ) → x ≡ bad f → After x m n (Bad f)
 refuses m n e = rw e refl
+
+-- where there was room for one more mark there is room for the type that is to be put
+pub whole-ready : {m : List ℕ} {o : State} (r : Ready m o) (x : Step) (n : ℕ) (q : State) → Closes x m o n q → q .top + q .types ≤ o .top + o .types → WholeReady m q
+whole-ready r x n q h l = record { to = x; whole = h .whole; room = omega (arith, r .room) }
 
 -- a bound may be larger
 pub wider : (x : Step) (m : List ℕ) (n w : ℕ) (r : Moved) → n ≤ w → After x m n r → After x m w r
@@ -353,7 +358,8 @@ unfolding Handler Held height structsIn arraysIn wholeIn fineIn
 close-fields {k} {m} {o} f e = by-mark (λ k. Follows k m o → Closes (close k) m o (o .structs) (closed o)) k 2 (the-mark (f .stands) e)
     (λ fs k h.
     let s = h .stands in
-    closes-below k (struct fs) m refl (omega (arith, s .top)) (omega (arith, s .structs)) (s .long) (s .held .1) (omega (arith, s .top)) (omega (arith, s .structs)) (s .arrays) (s .types) _ (nest-struct fs (structsIn k) (arraysIn k)) (h .fine))
+    closes-below k (struct fs) m refl (omega (arith, s .top)) (omega (arith, s .structs)) (s .long) (s .held .1) (omega (arith, s .top))
+    (omega (arith, s .structs)) (s .arrays) (s .types) _ (nest-struct fs (structsIn k) (arraysIn k)) (h .fine))
     f
 
 pub close-empty : (k : Stack) → mark k ≡ 1 → close k ≡ bad EmptyStruct
@@ -375,7 +381,8 @@ unfolding Handler Held height structsIn arraysIn wholeIn fineIn nest
 uncurl-end {k} {m} {o} f e = by-mark (λ k. Follows k m o → Closes (uncurl k) m o (o .arrays) (placed o (o .top - 1) (o .arrays - 1))) k 4 (the-mark (f .stands) e)
     (λ g c d k h.
     let s = h .stands in
-    closes-below k (dict g c d) m refl (omega (arith, s .top)) (omega (arith, s .arrays)) (s .long) (s .held .1) (omega (arith, s .top)) (s .structs) (omega (arith, s .arrays)) (s .types) _ (nest-array d (structsIn k) (arraysIn k)) (h .fine))
+    closes-below k (dict g c d) m refl (omega (arith, s .top)) (omega (arith, s .arrays)) (s .long) (s .held .1) (omega (arith, s .top)) (s .structs)
+    (omega (arith, s .arrays)) (s .types) _ (nest-array d (structsIn k) (arraysIn k)) (h .fine))
     f
 
 pub uncurl-none : (k : Stack) → (mark k ≡ 4 → ⊥) → uncurl k ≡ bad InvalidSignature

@@ -5,7 +5,7 @@ use mathlib.Core.Bool.{Bool, true, false, _&&_, and-true, and-assoc}
 use mathlib.Core.List.{List, [], _∷_, _++_}
 use native.Mathlib.Omega.{arith}
 use lib.Dec.{T, ltb, ltb→lt, lt→ltb}
-use Rattle.types.proofs.Rule.{and-left, and-right}
+use Rattle.meaning.proofs.Booleans.{and-left, and-right}
 use Rattle.meaning.specs.Types.{Ty, base, arr, dict, struct, variant, Tys, one, more}
 use Rattle.meaning.specs.Signature.{shallow, nest, nests, allNest, snoc}
 

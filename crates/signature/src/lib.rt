@@ -64,9 +64,8 @@ fn is_basic(c: u8) -> bool
     ensures { λ r. ⌜ r ≡ baseTok (find toks c) ⌝ }
 {
     match c {
-        b'y' | b'b' | b'n' | b'q' | b'i' | b'u' | b'x' | b't' | b'd' | b'h' | b's' | b'o' | b'g' =>
-            true,
-        _ => false,
+        b'a' | b'(' | b'v' => false,
+        _ => types::align(c) != 0,
     }
 }
 

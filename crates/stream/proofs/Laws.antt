@@ -12,7 +12,7 @@ use Rattle.meaning.specs.declared.Order.{Order}
 use Rattle.meaning.specs.declared.Refusal.{Refusal}
 use Rattle.meaning.specs.declared.Header.{Header}
 use Rattle.meaning.specs.declared.HeaderRead.{HeaderRead}
-use Rattle.meaning.specs.declared.HeaderRead.the-variants.{Read, Refused as Unread}
+use Rattle.meaning.specs.declared.HeaderRead.the-variants as headerRead
 use Rattle.meaning.specs.Number.{load, gap}
 use Rattle.meaning.specs.Message.{Message}
 use Rattle.meaning.specs.Reader.{Res, got, fault}
@@ -21,7 +21,12 @@ use Rattle.meaning.specs.Header.{headerOf, headerFrom, readHeader}
 use Rattle.meaning.proofs.MessageLocal.{readMessage-local}
 use Rattle.util.proofs.Windows.{seen}
 use Rattle.stream.specs.declared.Next.the-variants.{Whole, Cut, Refused}
-use Rattle.stream.specs.Next.{isShort, statedSize, refusedAs, nextFrom, nextOf}
+use Rattle.meaning.specs.Faults.{isShort}
+use Rattle.stream.specs.Next.{statedSize, refusedAs, nextFrom, nextOf}
+
+-- what the table's alignment of a struct makes of a gap
+pub gap-eight : {a g : ℕ} (off : ℕ) → g ≡ gap a off → a ≡ 8 → g ≡ gap 8 off
+gap-eight off h e = h ∙ ap (λ (n : ℕ). gap n off) e
 
 pub gap-small : (g off : ℕ) → g ≡ gap 8 off → g < 8
 unfolding gap
@@ -41,11 +46,11 @@ module _ (b : List ℕ) where
       rw (le-ltb _ _ h, n, z, eg)
 
   module _ (q : HeaderRead) (answers : q ≡ readHeader b) where
-    pub is-whole : (h : Header) → q ≡ Read h → (Whole h ≡ nextOf b) × (h .length .0 ≤ length b)
+    pub is-whole : (h : Header) → q ≡ headerRead.Read h → (Whole h ≡ nextOf b) × (h .length .0 ≤ length b)
     unfolding nextOf readHeader
     is-whole h k = (sym (ap (λ (x : HeaderRead). nextFrom x (length b) (statedSize b)) (sym answers ∙ k)), go (readMessage b 0) refl (sym answers ∙ k))
       where
-        go : (x : Res Message) → readMessage b 0 ≡ x → headerFrom x ≡ Read h → h .length .0 ≤ length b
+        go : (x : Res Message) → readMessage b 0 ≡ x → headerFrom x ≡ headerRead.Read h → h .length .0 ≤ length b
         go (got m e) r w =
             let u : headerOf m e ≡ h = cc in
             let v : h .length .0 ≡ e = sym (ap (λ (x : Header). x .length .0) u) in
@@ -53,7 +58,7 @@ module _ (b : List ℕ) where
             omega (arith, v, l)
         go (fault x) r w = absurd (let u : _≡_ {A = ℕ} 0 1 = cc in omega arith)
 
-    module _ (x : Refusal) (k : q ≡ Unread x) (s : ℕ) (states : s ≡ statedSize b) where
+    module _ (x : Refusal) (k : q ≡ headerRead.Refused x) (s : ℕ) (states : s ≡ statedSize b) where
       to : (short fewer : Bool) → isShort (x .fault) ≡ short → ltb (length b) s ≡ fewer → refusedAs short fewer s x ≡ nextOf b
       unfolding nextOf
       to short fewer h l =

@@ -7,16 +7,12 @@ use lib.Dec.{ltb, eqb}
 use Rattle.meaning.specs.declared.Fault.{Fault}
 use Rattle.meaning.specs.declared.Refusal.{Refusal}
 use Rattle.meaning.specs.declared.HeaderRead.{HeaderRead}
-use Rattle.meaning.specs.declared.HeaderRead.the-variants.{Read, Refused as Unread}
-use Rattle.meaning.specs.Faults.{numberOf}
+use Rattle.meaning.specs.declared.HeaderRead.the-variants as headerRead
+use Rattle.meaning.specs.Faults.{isShort}
 use Rattle.meaning.specs.Header.{readHeader}
 use Rattle.meaning.specs.ReadMessage.{messageSize}
 use Rattle.stream.specs.declared.Next.{Next}
 use Rattle.stream.specs.declared.Next.the-variants.{Whole, Cut, Refused}
-
--- "Too short means 2 and 3"
-abbrev pub isShort : Fault → Bool
-isShort f = eqb (numberOf f) 2 || eqb (numberOf f) 3
 
 -- what the first 16 bytes say of the length; before they are there, they are what a message has at least
 unfoldable pub statedSize : List ℕ → ℕ
@@ -29,8 +25,8 @@ refusedAs true false s x = Refused x
 refusedAs false fewer s x = Refused x
 
 abbrev pub nextFrom : HeaderRead → ℕ → ℕ → Next
-nextFrom (Read h) n s = Whole h
-nextFrom (Unread x) n s = refusedAs (isShort (x .fault)) (ltb n s) s x
+nextFrom (headerRead.Read h) n s = Whole h
+nextFrom (headerRead.Refused x) n s = refusedAs (isShort (x .fault)) (ltb n s) s x
 
 unfoldable pub nextOf : List ℕ → Next
 nextOf b = nextFrom (readHeader b) (length b) (statedSize b)

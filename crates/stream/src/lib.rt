@@ -1,7 +1,8 @@
 // The next message of a stream: whole, cut off by the end of the bytes that are there, or refused.
 ghost use mathlib.Core.Path.{_≡_};
 ghost use lib.ListN.{length};
-ghost use Rattle.stream.specs.Next.{isShort, statedSize, nextOf, Within};
+ghost use Rattle.meaning.specs.Faults.{isShort};
+ghost use Rattle.stream.specs.Next.{statedSize, nextOf, Within};
 use header::fixed_header;
 use meaning::Fault;
 use meaning::Header;
@@ -36,7 +37,7 @@ pub fn stated_size(buf: &[u8]) -> usize
     }
     let order = fixed_header::byteorder(buf[0]);
     let end = 16 + integers::load32(order, buf, 12) as usize;
-    end + util::gap(8, end) + integers::load32(order, buf, 4) as usize
+    end + util::gap(types::align(b'('), end) + integers::load32(order, buf, 4) as usize
 }
 
 // The answer for the message at the start of the buffer.

@@ -8,23 +8,10 @@ use Rattle.structs.proofs.of_written.Reads as of-written
 use Rattle.structs.proofs.of_read.Reads as of-read
 use Rattle.structs.proofs.of_found.Reads as of-found
 
-pub one-order : OneAnswer order.Learnt
-one-order κs a x y s t h k = both h k
+-- what a caller passes, and the refusal of each answer
+pub one-part : OneAnswer order.Learnt × OneAnswer refused.Learnt
+one-part = (λ κs a x y s t h k. both h k, λ κs a x y s t h k. both h k)
 
-pub one-refused : OneAnswer refused.Learnt
-one-refused κs a x y s t h k = both h k
-
-pub one-of-checked : OneAnswer of-checked.Learnt
-one-of-checked κs a x y s t h k = both h k
-
-pub one-of-counted : OneAnswer of-counted.Learnt
-one-of-counted κs a x y s t h k = both h k
-
-pub one-of-written : OneAnswer of-written.Learnt
-one-of-written κs a x y s t h k = both h k
-
-pub one-of-read : OneAnswer of-read.Learnt
-one-of-read κs a x y s t h k = both h k
-
-pub one-of-found : OneAnswer of-found.Learnt
-one-of-found κs a x y s t h k = both h k
+-- what is handed out of each answer
+pub one-handed : OneAnswer of-checked.Learnt × OneAnswer of-counted.Learnt × OneAnswer of-written.Learnt × OneAnswer of-read.Learnt × OneAnswer of-found.Learnt
+one-handed = (λ κs a x y s t h k. both h k, λ κs a x y s t h k. both h k, λ κs a x y s t h k. both h k, λ κs a x y s t h k. both h k, λ κs a x y s t h k. both h k)

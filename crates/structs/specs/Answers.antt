@@ -6,15 +6,15 @@ use Rattle.meaning.specs.declared.Order.the-variants.{Little, Big}
 use Rattle.meaning.specs.declared.Checked.{Checked}
 use Rattle.meaning.specs.declared.Checked.the-variants.{Accepted, Refused}
 use Rattle.meaning.specs.declared.Counted.{Counted}
-use Rattle.meaning.specs.declared.Counted.the-variants.{Types, Refused as Uncounted}
+use Rattle.meaning.specs.declared.Counted.the-variants as counted
 use Rattle.meaning.specs.declared.Written.{Written}
-use Rattle.meaning.specs.declared.Written.the-variants.{Done, Refused as Unwritten}
+use Rattle.meaning.specs.declared.Written.the-variants as written
 use Rattle.meaning.specs.declared.Entry.{Entry}
 use Rattle.meaning.specs.declared.Entry.the-variants.{Absent, Number, Text}
 use Rattle.meaning.specs.declared.Fields.{Fields}
 use Rattle.meaning.specs.declared.Header.{Header}
 use Rattle.meaning.specs.declared.HeaderRead.{HeaderRead}
-use Rattle.meaning.specs.declared.HeaderRead.the-variants.{Read, Refused as Unread}
+use Rattle.meaning.specs.declared.HeaderRead.the-variants as headerRead
 use Rattle.meaning.specs.declared.Refusal.{Refusal}
 use Rattle.meaning.specs.Faults.{numberOf}
 use Rattle.meaning.specs.Message.{kindCode}
@@ -47,18 +47,18 @@ answerOf (Refused x) = refused x
 
 -- "(length: number of types)"
 abbrev pub countOf : Counted → MtAnswer
-countOf (Types n) = accepted n
-countOf (Uncounted x) = refused x
+countOf (counted.Types n) = accepted n
+countOf (counted.Refused x) = refused x
 
 -- "(length: bytes written)": from the place on where the write began
 abbrev pub writtenOf : ℕ → Written → MtAnswer
-writtenOf from (Done p) = accepted (p .0 - from)
-writtenOf from (Unwritten x) = refused x
+writtenOf from (written.Done p) = accepted (p .0 - from)
+writtenOf from (written.Refused x) = refused x
 
 -- a write ends at or behind the place where it began
 abbrev pub Past : ℕ → Written → Type 0
-Past from (Done p) = from ≤ p .0
-Past from (Unwritten x) = Unit {0}
+Past from (written.Done p) = from ≤ p .0
+Past from (written.Refused x) = Unit {0}
 
 -- "entries of kind 0 absent / 1 number / 2 text, number or place, length"
 abbrev pub entryOf : Entry → MtEntry
@@ -107,8 +107,8 @@ headerOf h = record {
 
 -- a message that is refused has no header: all but the answer is 0
 abbrev pub readOf : HeaderRead → MtHeader
-readOf (Read h) = headerOf h
-readOf (Unread x) = record {
+readOf (headerRead.Read h) = headerOf h
+readOf (headerRead.Refused x) = record {
   answer = refused x;
   big = false;
   kind = 0;

@@ -11,7 +11,7 @@ use lib.Seq.{drop-cons, drop-length}
 use borrow.Author.Tests.{le-leb, lt-leb, lt-ltb, ne-eqb, leb-true}
 use Rattle.meaning.specs.Text.{Lead, follow, noLead, lead, scan, utf8, noZero, between, pick}
 use Rattle.text.specs.Class.{classOf}
-use Rattle.text.specs.Verdict.{textOf, plainBytes, goesOn}
+use Rattle.text.specs.Verdict.{textNumber, textFault, plainBytes, goesOn}
 use Rattle.text.specs.declared.Text.{Text}
 use Rattle.text.specs.declared.Text.the-variants.{Fine, NotUtf8, HasZero}
 use Rattle.text.specs.declared.Due.{Due}
@@ -54,16 +54,16 @@ pub front : (s : List ℕ) (i : ℕ) → i < length s → drop i s ≡ getD s i 
 front s i h = rw (add-one, drop-cons s i 0)
 
 -- what the answers say
-pub not-utf8 : (s : List ℕ) → utf8 s ≡ false → NotUtf8 ≡ textOf s
-unfolding textOf
+pub not-utf8 : (s : List ℕ) → utf8 s ≡ false → textNumber NotUtf8 ≡ textFault s
+unfolding textFault
 not-utf8 s e = rw e
 
-pub has-zero : (s : List ℕ) → utf8 s ≡ true → noZero s ≡ false → HasZero ≡ textOf s
-unfolding textOf
+pub has-zero : (s : List ℕ) → utf8 s ≡ true → noZero s ≡ false → textNumber HasZero ≡ textFault s
+unfolding textFault
 has-zero s e f = rw (e, f)
 
-pub fine : (s : List ℕ) → utf8 s ≡ true → noZero s ≡ true → Fine ≡ textOf s
-unfolding textOf
+pub fine : (s : List ℕ) → utf8 s ≡ true → noZero s ≡ true → textNumber Fine ≡ textFault s
+unfolding textFault
 fine s e f = rw (e, f)
 
 nonzero : (b : ℕ) → (b ≡ 0 → ⊥) → 1 ≤ b
@@ -138,13 +138,13 @@ plain-all (c ∷ cs) = go (leb 1 c) (leb c 127) refl refl (plain-all cs)
     go true false e f i = rw (e, f) (refl, refl)
     go false q e f i = rw e (refl, refl)
 
-pub plain-skip : (s : List ℕ) → textOf s ≡ textOf (drop (plainBytes s) s)
-unfolding textOf Same
+pub plain-skip : (s : List ℕ) → textFault s ≡ textFault (drop (plainBytes s) s)
+unfolding textFault Same
 plain-skip s = rw (plain-all s .0, plain-all s .1)
 
-pub plain-whole : (s : List ℕ) → plainBytes s ≡ length s → Fine ≡ textOf s
-unfolding textOf utf8 scan noZero
-plain-whole s e = let z : drop (plainBytes s) s ≡ [] = rw e (drop-length s) in sym (plain-skip s ∙ ap textOf z)
+pub plain-whole : (s : List ℕ) → plainBytes s ≡ length s → textNumber Fine ≡ textFault s
+unfolding textFault utf8 scan noZero
+plain-whole s e = let z : drop (plainBytes s) s ≡ [] = rw e (drop-length s) in sym (plain-skip s ∙ ap textFault z)
 
 pub plain-le : (s : List ℕ) → plainBytes s ≤ length s
 unfolding plainBytes
@@ -155,17 +155,35 @@ plain-le (c ∷ cs) = go (between 1 127 c) (plain-le cs)
     go true h = omega arith
     go false h = omega arith
 
+-- no two answers have one number
+numbered : ℕ → Text
+numbered n = pick (eqb n 0) Fine (pick (eqb n 6) NotUtf8 HasZero)
+
+numbered-is : (t : Text) → numbered (textNumber t) ≡ t
+unfolding numbered
+numbered-is Fine = refl
+numbered-is NotUtf8 = refl
+numbered-is HasZero = refl
+
+pub same-number : (t u : Text) → textNumber t ≡ textNumber u → t ≡ u
+same-number t u e = sym (numbered-is t) ∙ ap numbered e ∙ numbered-is u
+
 -- what each answer says, for whoever asks
 abbrev pub Says : Text → List ℕ → Type 0
 Says Fine s = (utf8 s ≡ true) × (noZero s ≡ true)
 Says NotUtf8 s = utf8 s ≡ false
 Says HasZero s = (utf8 s ≡ true) × (noZero s ≡ false)
 
-pub text-says : (t : Text) (s : List ℕ) → t ≡ textOf s → Says t s
-unfolding textOf
-text-says t s e = subst (λ (x : Text). Says x s) (sym e) (go (utf8 s) (noZero s) refl refl)
+verdict : List ℕ → Text
+verdict s = pick (utf8 s) (pick (noZero s) Fine HasZero) NotUtf8
+
+pub text-says : (t : Text) (s : List ℕ) → textNumber t ≡ textFault s → Says t s
+unfolding textFault verdict
+text-says t s e =
+    let v = go (utf8 s) (noZero s) refl refl in
+    subst (λ (x : Text). Says x s) (same-number (verdict s) t (v .0 ∙ sym e)) (v .1)
   where
-    go : (p q : Bool) → utf8 s ≡ p → noZero s ≡ q → Says (pick (utf8 s) (pick (noZero s) Fine HasZero) NotUtf8) s
-    go true true f g = rw (f, g) (f, g)
-    go true false f g = rw (f, g) (f, g)
-    go false q f g = rw f f
+    go : (p q : Bool) → utf8 s ≡ p → noZero s ≡ q → (textNumber (verdict s) ≡ textFault s) × Says (verdict s) s
+    go true true f g = rw (f, g) (refl, (f, g))
+    go true false f g = rw (f, g) (refl, (f, g))
+    go false q f g = rw f (refl, f)

@@ -8,7 +8,7 @@ ghost use Prim.Native.Nat.{ℕ, _≤_, _<_};
 ghost use lib.ListN.{length, drop};
 ghost use Rattle.meaning.specs.Text.{scan, names, isPath};
 ghost use Rattle.text.specs.Class.{classOf};
-ghost use Rattle.text.specs.Verdict.{textOf, plainBytes, goesOn};
+ghost use Rattle.text.specs.Verdict.{textNumber, textFault, plainBytes, goesOn};
 
 // The class of every byte value: 0 the zero byte, 1 any other ASCII but 2 the slash and 3 the bytes of a name; 4 never first in a character;
 // and the first bytes by what has to follow them, 5 (c2 to df), 6 (e0), 7 (e1 to ec, ee, ef), 8 (ed), 9 (f0), 10 (f1 to f3), 11 (f4).
@@ -342,7 +342,7 @@ fn one_more(due: Due, class: u8, b: u8) -> Step
 // The check of what stands from `from` on, by classes.
 fn walk(s: &[u8], from: usize) -> Text
     requires { ⌜ from ≤ length (now s) ⌝ }
-    ensures { λ r. ⌜ r ≡ textOf (drop from (now (s .entry))) ⌝ }
+    ensures { λ r. ⌜ textNumber r ≡ textFault (drop from (now (s .entry))) ⌝ }
 {
     let classes = CLASS;
     let mut at = Due {
@@ -393,7 +393,7 @@ fn plain_bytes(s: &[u8]) -> usize
 
 // Whether `s` is UTF-8 and has no zero byte. Plain text, by far the most, needs no table.
 pub fn check_text(s: &[u8]) -> Text
-    ensures { λ r. ⌜ r ≡ textOf (now (s .entry)) ⌝ }
+    ensures { λ r. ⌜ textNumber r ≡ textFault (now (s .entry)) ⌝ }
 {
     let plain = plain_bytes(s);
     if plain == s.len() {

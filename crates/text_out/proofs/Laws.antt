@@ -9,7 +9,7 @@ use lib.Seq.{sets, drop-cons}
 use borrow.Author.Tests.{le-leb, lt-leb}
 use Rattle.io.specs.Digits.{glyph}
 use Rattle.text_out.specs.Digits.{hexText, bytesText}
-use Rattle.text_out.specs.Puts.{putText}
+use Rattle.text_out.specs.Puts.{putText, putAll, Puts}
 
 pub text-turn : (l e s : List ℕ) (at i : ℕ) → i < length s → sets l (at + 2 * i) (hexText (drop i s)) ≡ e
     → sets (set (set l (at + 2 * i) (glyph (getD s i 0 / 16))) (at + 2 * i + 1) (glyph (getD s i 0 % 16))) (at + 2 * (i + 1)) (hexText (drop (i + 1) s)) ≡ e
@@ -19,19 +19,18 @@ text-turn l e s at i h p =
     let r : at + 2 * i + 1 ≡ suc (at + 2 * i) = omega arith in
     rw (q, r, add-one i) (rw (drop-cons s i 0 h) at p)
 
-pub copy-turn : (l e s : List ℕ) (at i : ℕ) → i < length s → sets l (at + i) (drop i s) ≡ e → sets (set l (at + i) (getD s i 0)) (at + (i + 1)) (drop (i + 1) s) ≡ e
-copy-turn l e s at i h p =
-    let q : at + (i + 1) ≡ suc (at + i) = omega arith in
-    rw (q, add-one i) (rw (drop-cons s i 0 h) at p)
+alone : {out b x : List ℕ} {at p : ℕ} → (p ≡ putText out at x .place) × (b ≡ putText out at x .after) → Puts out at (x ∷ []) p b
+unfolding putAll
+alone h = record { place = h .0; after = h .1 }
 
 -- a text that there is room for, and one that there is none for
-pub fitting : (out xs e : List ℕ) (at n : ℕ) → at + length xs ≤ length out → n ≡ at + length xs → e ≡ sets out at xs → (n ≡ putText out at xs .place) × (e ≡ putText out at xs .after)
+pub fitting : (out xs e : List ℕ) (at n : ℕ) → at + length xs ≤ length out → n ≡ at + length xs → e ≡ sets out at xs → Puts out at (xs ∷ []) n e
 unfolding putText
-fitting out xs e at n h p q = rw (le-leb _ _ h, putText) (p, q)
+fitting out xs e at n h p q = alone (rw (le-leb _ _ h, putText) (p, q))
 
-pub left-out : (out xs : List ℕ) (at : ℕ) → length out < at + length xs → (at ≡ putText out at xs .place) × (out ≡ putText out at xs .after)
+pub left-out : (out xs : List ℕ) (at : ℕ) → length out < at + length xs → Puts out at (xs ∷ []) at out
 unfolding putText
-left-out out xs at h = rw (lt-leb _ _ h, putText) (refl, refl)
+left-out out xs at h = alone (rw (lt-leb _ _ h, putText) (refl, refl))
 
 pub length-hex : (s : List ℕ) → length (hexText s) ≡ 2 * length s
 unfolding hexText

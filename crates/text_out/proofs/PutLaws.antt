@@ -9,11 +9,6 @@ unfolding putAll
 append out at [] ys = refl
 append out at (x ∷ xs) ys = append (putText out at x .after) (putText out at x .place) xs ys
 
--- one text
-pub alone : {out b x : List ℕ} {at p : ℕ} → (p ≡ putText out at x .place) × (b ≡ putText out at x .after) → Puts out at (x ∷ []) p b
-unfolding putAll
-alone h = record { place = h .0; after = h .1 }
-
 -- what is left to put once some texts are there
 pub rest : {out b : List ℕ} {at p : ℕ} {xs : List (List ℕ)} (ys : List (List ℕ)) → Puts out at xs p b → putAll out at (xs ++ ys) ≡ putAll b p ys
 rest {out} {b} {at} {p} {xs} ys g = append out at xs ys ∙ rw (← g .place, ← g .after)

@@ -1,31 +1,21 @@
 // Text put into a buffer that the caller lends: bytes as they are, numbers, and bytes in hexadecimal.
 ghost use mathlib.Core.Path.{_≡_};
+ghost use mathlib.Core.List.{[], _∷_};
 ghost use Prim.Native.Nat.{_+_, _*_, _≤_, _<_};
 ghost use lib.ListN.{length};
 ghost use lib.Seq.{sets};
 ghost use Rattle.io.specs.Digits.{glyph as glyphOf};
 ghost use Rattle.text_out.specs.Digits.{hexText, bytesText, decimal};
-ghost use Rattle.text_out.specs.Puts.{putText};
-
-fn copy(out: &mut [u8], at: usize, s: &[u8])
-    requires { ⌜ at + length (now s) ≤ length (now out) ⌝ }
-    ensures { λ _. ⌜ now (out .exit) ≡ sets (now (out .entry)) at (now (s .entry)) ⌝ }
-{
-    let mut i = 0;
-    while i < s.len() {
-        out[at + i] = s[i];
-        i += 1;
-    }
-}
+ghost use Rattle.text_out.specs.Puts.{Puts};
+use write::store;
 
 // Puts a text at a place, and answers the place behind it.
 pub fn put(out: &mut [u8], at: usize, s: &[u8]) -> usize
-    ensures { λ r. ⌜ r ≡ putText (now (out .entry)) at (now (s .entry)) .place ⌝ }
-    ensures { λ r. ⌜ now (out .exit) ≡ putText (now (out .entry)) at (now (s .entry)) .after ⌝ }
+    ensures { λ r. ⌜ Puts (now (out .entry)) at (now (s .entry) ∷ []) r (now (out .exit)) ⌝ }
 {
     if at <= out.len() {
         if s.len() <= out.len() - at {
-            copy(out, at, s);
+            store::copy(out, at, s);
             return at + s.len();
         }
     }
@@ -34,8 +24,7 @@ pub fn put(out: &mut [u8], at: usize, s: &[u8]) -> usize
 
 // A number's decimal digits, the fewest that hold it.
 pub fn put_number(out: &mut [u8], at: usize, n: u64) -> usize
-    ensures { λ r. ⌜ r ≡ putText (now (out .entry)) at (decimal n) .place ⌝ }
-    ensures { λ r. ⌜ now (out .exit) ≡ putText (now (out .entry)) at (decimal n) .after ⌝ }
+    ensures { λ r. ⌜ Puts (now (out .entry)) at (decimal n ∷ []) r (now (out .exit)) ⌝ }
 {
     let mut text = [0u8; 20];
     let k = io::decimal(n, &mut text);
@@ -64,8 +53,7 @@ fn pair(out: &mut [u8], at: usize, s: &[u8])
 
 // Bytes in hexadecimal; no bytes are `-`.
 pub fn put_bytes(out: &mut [u8], at: usize, s: &[u8]) -> usize
-    ensures { λ r. ⌜ r ≡ putText (now (out .entry)) at (bytesText (now (s .entry))) .place ⌝ }
-    ensures { λ r. ⌜ now (out .exit) ≡ putText (now (out .entry)) at (bytesText (now (s .entry))) .after ⌝ }
+    ensures { λ r. ⌜ Puts (now (out .entry)) at (bytesText (now (s .entry)) ∷ []) r (now (out .exit)) ⌝ }
 {
     if s.len() == 0 {
         return put(out, at, b"-");

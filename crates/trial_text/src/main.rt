@@ -6,7 +6,6 @@ use libc::STDIN_FILENO;
 use libc::STDOUT_FILENO;
 use meaning::Checked;
 use meaning::Integer;
-use meaning::Length;
 use meaning::Order;
 use meaning::Place;
 use meaning::Reached;
@@ -24,31 +23,28 @@ fn put_number(n: u64) {
     io::print_decimal(STDOUT_FILENO, n);
 }
 
+fn put_labelled(word: &[u8], n: usize) {
+    put(word);
+    put_number(n as u64);
+}
+
 fn put_refusal(r: Refusal) {
     let fault = r.fault;
     let place = r.place;
-    put(b" no ");
-    put_number(meaning::number(fault) as u64);
-    put(b" at ");
-    put_number(place.0 as u64);
+    put_labelled(b" no ", meaning::number(fault) as usize);
+    put_labelled(b" at ", place.0);
 }
 
 fn put_checked(c: Checked) {
     match c {
-        Checked::Accepted(length) => {
-            put(b" ok ");
-            put_number(length.0 as u64);
-        }
+        Checked::Accepted(length) => put_labelled(b" ok ", length.0),
         Checked::Refused(r) => put_refusal(r),
     }
 }
 
 fn put_reached(c: Reached) {
     match c {
-        Reached::At(place) => {
-            put(b" to ");
-            put_number(place.0 as u64);
-        }
+        Reached::At(place) => put_labelled(b" to ", place.0),
         Reached::Refused(r) => put_refusal(r),
     }
 }
@@ -125,7 +121,7 @@ fn of_two(kind: u8, first: usize, s: &[u8]) {
     }
     let off = wide(s[0]);
     if kind == b'a' {
-        put_checked(util::align_offset(Length(first), Place(off), &s[1..]));
+        put_checked(util::align_offset(first, Place(off), &s[1..]));
     } else {
         windows(first, off, &s[1..]);
     }
@@ -174,7 +170,7 @@ fn case(line: &[u8]) {
         return;
     };
     put(b":");
-    run(kind, &out[..n]);
+    run(kind, question_lines::first(&out, n));
 }
 
 fn cases(s: &[u8]) {

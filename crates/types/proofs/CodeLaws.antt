@@ -1,7 +1,9 @@
 -- Alignments and sizes by code are those of the types: what callers of `align` and `size` cite.
+use Prim.Native.Nat.{ℕ}
 use mathlib.Core.Path.{_≡_, refl, ap}
 use lib.Dec.{T}
 use lib.ListN.{getD}
+use mathlib.Core.Path.{_∙_}
 use Rattle.meaning.specs.Types.{Fix, byte, bool, i16, u16, i32, u32, i64, u64, dbl, fd, Base, fix, str, path, sig, inArray, loose, Ty, base, arr, dict, struct, variant, size, alignBase, align}
 use Rattle.meaning.specs.Signature.{code, codeFix, spell, notLoose, find}
 use Rattle.meaning.specs.Writers.{isAlignment}
@@ -27,6 +29,16 @@ align-variant = refl
 pub align-struct : alignCode 40 ≡ 8
 unfolding alignCode find
 align-struct = refl
+
+-- what code learns that reads the table at the code of an array, of a struct, and of a length
+pub array-aligns : {a : ℕ} → a ≡ alignCode 97 → T (isAlignment a)
+array-aligns e = rw (e, align-array) tt
+
+pub struct-aligns : {a : ℕ} → a ≡ alignCode 40 → T (isAlignment a)
+struct-aligns e = rw (e, align-struct) tt
+
+pub size-length : sizeCode 117 ≡ 4
+size-length = size-fix u32
 
 -- a type's alignment is that of its first code; only a dict alone, whose first code is its bracket, is outside the table
 pub align-first : (t : Ty) → T (notLoose t) → alignCode (getD (spell t) 0 0) ≡ align t
@@ -63,3 +75,10 @@ is-alignment (arr e) = tt
 is-alignment (dict f k e) = tt
 is-alignment (struct fs) = tt
 is-alignment variant = tt
+
+-- what the table says of the code of a fixed-size type: its size, which is its alignment too
+pub size-is : (c : Fix) (n : ℕ) → n ≡ sizeCode (codeFix c) → n ≡ size c
+size-is c n h = h ∙ size-fix c
+
+pub size-aligns : (c : Fix) (n : ℕ) → n ≡ sizeCode (codeFix c) → T (isAlignment n)
+size-aligns c n h = rw (size-is c n h) (size-is-alignment c)

@@ -3,8 +3,5 @@ use Rattle.meaning.proofs.OneAnswer.{OneAnswer, both}
 use Rattle.types.proofs.align.Reads as align
 use Rattle.types.proofs.size.Reads as size
 
-pub one-align : OneAnswer align.Learnt
-one-align κs a x y s t h k = both h k
-
-pub one-size : OneAnswer size.Learnt
-one-size κs a x y s t h k = both h k
+pub one-entry : OneAnswer align.Learnt × OneAnswer size.Learnt
+one-entry = (λ κs a x y s t h k. both h k, λ κs a x y s t h k. both h k)

@@ -10,6 +10,7 @@ use lib.ListN.{getD}
 use borrow.Author.Tests.{ltb-true, ltb-false}
 use Rattle.types.specs.Codes.{alignCode, sizeCode}
 use Rattle.meaning.specs.Signature.{find}
+use Rattle.meaning.proofs.Booleans.{and-left, and-right}
 
 -- the entries of the table, from the code 40 on
 unfoldable pub entries : List ℕ
@@ -28,14 +29,6 @@ last k n h = go (ltb k n) refl
     go : (b : Bool) → ltb k n ≡ b → (k < n) ⊎ (n ≡ k)
     go true e = inl (ltb-true k n e)
     go false e = inr (omega (arith, ltb-false k n e))
-
-pub and-left : (a b : Bool) → T (a && b) → T a
-and-left true b h = tt
-and-left false b h = h
-
-pub and-right : (a b : Bool) → T (a && b) → T b
-and-right true b h = h
-and-right false b h = absurd h
 
 pub passed : (f : ℕ → Bool) (n : ℕ) → T (passes f n) → (k : ℕ) → k < n → T (f k)
 unfolding passes

@@ -1,2 +1,3 @@
 pub mod HeaderLaws
 pub mod OneAnswer
+pub mod Demands

@@ -15,7 +15,7 @@ use Rattle.meaning.specs.declared.Entry.the-variants.{Absent, Number, Text}
 use Rattle.meaning.specs.declared.Fields.{Fields}
 use Rattle.header.specs.declared.fixed_header.Start.{Start}
 use Rattle.header.specs.FixedHeader.{startOf}
-use Rattle.header.specs.HeaderFields.{fieldsFrom}
+use Rattle.meaning.specs.Header.{fieldsFrom}
 use Rattle.unmarshal.specs.declared.body.Part.{Part}
 
 -- a signature of types
@@ -34,17 +34,11 @@ cutOf d b Absent = d
 cutOf d b (Number n) = d
 cutOf d b (Text p l) = take (l .0) (drop (p .0) b)
 
--- where a text begins and ends; nowhere for what is no text
+-- where a text begins, and how long it is; nothing for what is no text
 abbrev pub partOf : Entry → Part
-partOf Absent = record { 0 = 0; 1 = 0 }
-partOf (Number n) = record { 0 = 0; 1 = 0 }
-partOf (Text p l) = record { 0 = p .0; 1 = p .0 + l .0 }
-
--- the end of a text is a place
-abbrev pub Ending : Entry → Type 0
-Ending Absent = Unit {0}
-Ending (Number n) = Unit {0}
-Ending (Text p l) = p .0 + l .0 < 18446744073709551616
+partOf Absent = record { 0 = record { 0 = 0 }; 1 = record { 0 = 0 } }
+partOf (Number n) = record { 0 = record { 0 = 0 }; 1 = record { 0 = 0 } }
+partOf (Text p l) = record { 0 = p; 1 = l }
 
 -- a message up to the end of its field table, with what the header keeps of it
 pub record Held (b : List ℕ) (start : Start) (fields : Fields) (end : ℕ) : Type 0 where

@@ -8,7 +8,7 @@ ghost use Rattle.meaning.specs.Signature.{parse, types};
 ghost use Rattle.meaning.specs.ReadMessage.{bodyR};
 ghost use Rattle.meaning.specs.Header.{readHeader};
 ghost use Rattle.util.specs.Entry.{Window};
-ghost use Rattle.unmarshal.specs.Body.{Types, Ending, partOf, Held};
+ghost use Rattle.unmarshal.specs.Body.{Types, partOf, Held};
 use header::fixed_header::Start;
 use meaning::Entry;
 use meaning::Fault;
@@ -20,10 +20,12 @@ use meaning::Order;
 use meaning::Place;
 use meaning::Reached;
 use validate_raw::walk;
+use validate_raw::walk::Left;
+use validate_raw::walk::Spot;
 use validate_raw::walk::Walked;
 
-// Where a text of the message begins and ends; nowhere, at its start, for an entry that is none.
-pub struct Part(pub usize, pub usize);
+// Where a text of the message begins, and how long it is; nothing, at the message's start, for an entry that is none.
+pub struct Part(pub Place, pub Length);
 
 // The values of a body that ends at `end`, by its signature: nothing may be left after them.
 fn unmarshal_body(order: Order, sig: &[u8], buf: &[u8], end: usize, off: usize) -> Reached
@@ -34,10 +36,14 @@ fn unmarshal_body(order: Order, sig: &[u8], buf: &[u8], end: usize, off: usize) 
     let mut i = 0;
     let mut at = off;
     while i < sig.len() {
-        match walk::value(order, sig, i, buf, end, at, 16) {
-            Walked::Past(n, p) => {
-                i = n;
-                at = p;
+        let spot = Spot {
+            sig: Place(i),
+            buf: Place(at),
+        };
+        match walk::value(order, sig, buf, end, spot, Left { levels: 16 }) {
+            Walked::Past(past) => {
+                i = past.sig.0;
+                at = past.buf.0;
             }
             Walked::Refused(refusal) => {
                 return Reached::Refused(refusal);
@@ -52,14 +58,13 @@ fn unmarshal_body(order: Order, sig: &[u8], buf: &[u8], end: usize, off: usize) 
 }
 
 fn signature_part(fields: Fields) -> Part
-    requires { ⌜ Ending (fields .signature) ⌝ }
     ensures { λ r. ⌜ r ≡ partOf (fields .signature) ⌝ }
 {
     let entry = fields.signature;
     match entry {
-        Entry::Text(place, length) => Part(place.0, place.0 + length.0),
-        Entry::Number(_) => Part(0, 0),
-        Entry::Absent => Part(0, 0),
+        Entry::Text(place, length) => Part(place, length),
+        Entry::Number(_) => Part(Place(0), Length(0)),
+        Entry::Absent => Part(Place(0), Length(0)),
     }
 }
 
@@ -68,17 +73,20 @@ pub fn unmarshal_next_message(start: Start, fields: Fields, buf: &[u8], end: usi
     requires { ⌜ Held (now buf) start fields end ⌝ }
     ensures { λ r. ⌜ r ≡ readHeader (now (buf .entry)) ⌝ }
 {
-    match util::padded(buf, buf.len(), end, 8) {
+    match util::padded(buf, buf.len(), end, types::align(b'(')) {
         Reached::At(place) => {
             let at = place.0;
-            let size = start.body;
+            let length = start.body;
+            let size = length.0;
             if buf.len() - at < size {
                 return HeaderRead::Refused(meaning::refuse(Fault::NotEnoughBytes, 0));
             }
             let stop = at + size;
             let part = signature_part(fields);
-            let first = part.0;
-            let past = part.1;
+            let place = part.0;
+            let long = part.1;
+            let first = place.0;
+            let past = first + long.0;
             let order = start.order;
             let kind = start.kind;
             match unmarshal_body(order, &buf[first..past], buf, stop, at) {
@@ -96,9 +104,6 @@ pub fn unmarshal_next_message(start: Start, fields: Fields, buf: &[u8], end: usi
                 Reached::Refused(refusal) => HeaderRead::Refused(refusal),
             }
         }
-        Reached::Refused(refusal) => {
-            let fault = refusal.fault;
-            HeaderRead::Refused(meaning::refuse(fault, 0))
-        }
+        Reached::Refused(refusal) => HeaderRead::Refused(meaning::moved(refusal, 0)),
     }
 }

@@ -30,15 +30,9 @@ pub fn unmarshal_header(buf: &[u8]) -> HeaderRead
             let kind = start.kind;
             match header_fields::unmarshal_header_fields(order, kind, buf, end, 16) {
                 TableRead::Read(fields) => body::unmarshal_next_message(start, fields, buf, end),
-                TableRead::Refused(refusal) => {
-                    let fault = refusal.fault;
-                    HeaderRead::Refused(meaning::refuse(fault, 0))
-                }
+                TableRead::Refused(refusal) => HeaderRead::Refused(meaning::moved(refusal, 0)),
             }
         }
-        Began::Refused(refusal) => {
-            let fault = refusal.fault;
-            HeaderRead::Refused(meaning::refuse(fault, 0))
-        }
+        Began::Refused(refusal) => HeaderRead::Refused(meaning::moved(refusal, 0)),
     }
 }

@@ -15,7 +15,7 @@ use Rattle.meaning.specs.ReadValue.{padding, at4}
 use Rattle.meaning.specs.Writers.{isAlignment}
 use Rattle.meaning.specs.declared.Reached.{Reached}
 use Rattle.meaning.specs.declared.Reached.the-variants.{At, Refused}
-use Rattle.meaning.specs.declared.Checked.the-variants.{Refused as Rejected}
+use Rattle.meaning.specs.declared.Checked.the-variants as checked
 use Rattle.meaning.specs.Reads.{checkPadding}
 use Rattle.meaning.specs.declared.Refusal.{Refusal}
 use Rattle.meaning.specs.declared.Fault.the-variants.{BadOffset, NotEnoughBytes, PaddingContainedData, BadAlignment}
@@ -108,11 +108,11 @@ module _ (b : List ℕ) (from count i : ℕ) where
   all-passed g h e = let z : count - i ≡ 0 = omega arith in rw (e, z)
 
 -- 1 and 24 come before the padding's own faults
-pub outside : (a : ℕ) (b : List ℕ) (off : ℕ) → length b < off → (x : Refusal) → x ≡ refusal BadOffset off → Rejected x ≡ checkPadding a b off
+pub outside : (a : ℕ) (b : List ℕ) (off : ℕ) → length b < off → (x : Refusal) → x ≡ refusal BadOffset off → checked.Refused x ≡ checkPadding a b off
 unfolding checkPadding
 outside a b off h x e = rw (leb-false off (length b) h, checkPadding, e)
 
-pub no-alignment : (a : ℕ) (b : List ℕ) (off : ℕ) → off ≤ length b → isAlignment a ≡ false → (x : Refusal) → x ≡ refusal BadAlignment off → Rejected x ≡ checkPadding a b off
+pub no-alignment : (a : ℕ) (b : List ℕ) (off : ℕ) → off ≤ length b → isAlignment a ≡ false → (x : Refusal) → x ≡ refusal BadAlignment off → checked.Refused x ≡ checkPadding a b off
 unfolding checkPadding
 no-alignment a b off h k x e = rw (leb-true off (length b) h, k, checkPadding, e)
 

@@ -5,7 +5,7 @@ use lib.ListN.{length}
 use Rattle.meaning.specs.declared.Reached.{Reached}
 use Rattle.meaning.specs.declared.Reached.the-variants.{At, Refused}
 use Rattle.meaning.specs.declared.Checked.{Checked}
-use Rattle.meaning.specs.declared.Checked.the-variants.{Refused as Rejected}
+use Rattle.meaning.specs.declared.Checked.the-variants as checked
 use Rattle.meaning.specs.ReadValue.{taken}
 
 -- what a reader may see ends at `end`, and it starts at off
@@ -21,4 +21,4 @@ Past off (Refused x) = Unit {0}
 -- an entry point answers with a length, not a place
 abbrev pub takenFrom : ℕ → Reached → Checked
 takenFrom off (At p) = taken (p .0 - off)
-takenFrom off (Refused x) = Rejected x
+takenFrom off (Refused x) = checked.Refused x

@@ -4,7 +4,8 @@ ghost use Prim.Native.Nat.{_+_, _≤_, _<_};
 ghost use lib.Dec.{T};
 ghost use lib.ListN.{length};
 ghost use Rattle.meaning.specs.Reads.{readInteger};
-ghost use Rattle.util.specs.Loaded.{Loaded, isWidth};
+ghost use Rattle.meaning.specs.Writers.{isAlignment};
+ghost use Rattle.util.specs.Loaded.{Loaded};
 use meaning::Fault;
 use meaning::Integer;
 use meaning::Order;
@@ -59,17 +60,7 @@ fn big64(buf: &[u8], at: usize) -> u64
     big32(buf, at + 4) + big32(buf, at) * 4294967296
 }
 
-// The number that the bytes from `at` on stand for.
-pub fn load16(order: Order, buf: &[u8], at: usize) -> u64
-    requires { ⌜ at + 2 ≤ length (now buf) ⌝ }
-    ensures { λ r. ⌜ Loaded order 2 (now (buf .entry)) at r ⌝ }
-{
-    match order {
-        Order::Little => little16(buf, at),
-        Order::Big => big16(buf, at),
-    }
-}
-
+// The 32 bits that the bytes from `at` on stand for: the width of every length.
 pub fn load32(order: Order, buf: &[u8], at: usize) -> u64
     requires { ⌜ at + 4 ≤ length (now buf) ⌝ }
     ensures { λ r. ⌜ Loaded order 4 (now (buf .entry)) at r ⌝ }
@@ -80,19 +71,31 @@ pub fn load32(order: Order, buf: &[u8], at: usize) -> u64
     }
 }
 
-pub fn load64(order: Order, buf: &[u8], at: usize) -> u64
-    requires { ⌜ at + 8 ≤ length (now buf) ⌝ }
-    ensures { λ r. ⌜ Loaded order 8 (now (buf .entry)) at r ⌝ }
+// The number that `width` bytes from `at` on stand for.
+pub fn load(order: Order, width: usize, buf: &[u8], at: usize) -> u64
+    requires { ⌜ (at + width ≤ length (now buf)) × T (isAlignment width) ⌝ }
+    ensures { λ r. ⌜ Loaded order width (now (buf .entry)) at r ⌝ }
 {
-    match order {
-        Order::Little => little64(buf, at),
-        Order::Big => big64(buf, at),
+    if width == 8 {
+        match order {
+            Order::Little => little64(buf, at),
+            Order::Big => big64(buf, at),
+        }
+    } else if width == 4 {
+        load32(order, buf, at)
+    } else if width == 2 {
+        match order {
+            Order::Little => little16(buf, at),
+            Order::Big => big16(buf, at),
+        }
+    } else {
+        wide(buf[at])
     }
 }
 
-// The integer of `width` bytes at `at`, in the orders that the entry points below refuse in.
+// The integer of `width` bytes at `at`, in the order in which the entry points below refuse.
 fn parse(order: Order, at: usize, buf: &[u8], width: usize) -> Integer
-    requires { ⌜ T (isWidth width) ⌝ }
+    requires { ⌜ T (isAlignment width) ⌝ }
     ensures { λ r. ⌜ r ≡ readInteger order width (now (buf .entry)) at ⌝ }
 {
     if buf.len() < at {
@@ -101,13 +104,7 @@ fn parse(order: Order, at: usize, buf: &[u8], width: usize) -> Integer
     if buf.len() - at < width {
         return Integer::Refused(meaning::refuse(Fault::NotEnoughBytes, at));
     }
-    if width == 2 {
-        Integer::Read(load16(order, buf, at))
-    } else if width == 4 {
-        Integer::Read(load32(order, buf, at))
-    } else {
-        Integer::Read(load64(order, buf, at))
-    }
+    Integer::Read(load(order, width, buf, at))
 }
 
 pub fn parse_u16(order: Order, offset: Place, buf: &[u8]) -> Integer

@@ -97,16 +97,15 @@ pub fn is_alignment(align: usize) -> bool
 }
 
 // How long the padding at `offset` is.
-pub fn align_offset(align: Length, offset: Place, buf: &[u8]) -> Checked
-    ensures { λ r. ⌜ r ≡ checkPadding (align .0) (now (buf .entry)) (offset .0) ⌝ }
+pub fn align_offset(align: usize, offset: Place, buf: &[u8]) -> Checked
+    ensures { λ r. ⌜ r ≡ checkPadding align (now (buf .entry)) (offset .0) ⌝ }
 {
     let off = offset.0;
-    let to = align.0;
     if buf.len() < off {
         return Checked::Refused(meaning::refuse(Fault::BadOffset, off));
     }
-    if is_alignment(to) {
-        taken_from(off, padded(buf, buf.len(), off, to))
+    if is_alignment(align) {
+        taken_from(off, padded(buf, buf.len(), off, align))
     } else {
         Checked::Refused(meaning::refuse(Fault::BadAlignment, off))
     }

@@ -23,6 +23,7 @@ use Rattle.meaning.proofs.Local.{leb-false}
 use Rattle.meaning.proofs.PlaceLaws.{whole-type}
 use Rattle.meaning.proofs.ValueLocal.{readTop-local}
 use Rattle.meaning.proofs.ValueDemands.{checkValue-is}
+use Rattle.validate_raw.specs.declared.walk.Spot.{Spot}
 use Rattle.validate_raw.specs.declared.walk.Walked.{Walked}
 use Rattle.validate_raw.specs.declared.walk.Walked.the-variants.{Past, Refused as Stopped}
 use Rattle.validate_raw.specs.Walk.{walkedOf}
@@ -78,10 +79,10 @@ module _ (o : Order) (s b : List ℕ) (off : ℕ) (i : Single s) (h : off ≤ le
   unfolding readTop
   walked = answers (i .ty) (length s) (i .stands) ∙ ap (λ (x : List ℕ). walkedOf (length s) (read o (readVar o 16) (i .ty) x off)) (take-length b)
 
-  pub value-past : (n p : ℕ) → q ≡ Past n p → (off ≤ p) × (taken (p - off) ≡ checkValue o s b off)
-  value-past n p k =
-      let j = past-inv (length s) n p (readTop o (i .ty) b off) (sym walked ∙ k) in
-      (readTop-local o (i .ty) .bound b off (j .0) p h (j .1) .0, sym (checkValue-is o s (i .ty) b off (i .only) h ∙ ap (checkedOf off) (j .1)))
+  pub value-past : (p : Spot) → q ≡ Past p → (off ≤ p .buf .0) × (taken (p .buf .0 - off) ≡ checkValue o s b off)
+  value-past p k =
+      let j = past-inv (length s) p (readTop o (i .ty) b off) (sym walked ∙ k) in
+      (readTop-local o (i .ty) .bound b off (j .0) (p .buf .0) h (j .1) .0, sym (checkValue-is o s (i .ty) b off (i .only) h ∙ ap (checkedOf off) (j .1)))
 
   pub value-stop : (x : Refusal) → q ≡ Stopped x → Refused x ≡ checkValue o s b off
   value-stop x k = sym (checkValue-is o s (i .ty) b off (i .only) h ∙ ap (checkedOf off) (stopped-inv (length s) x (readTop o (i .ty) b off) (sym walked ∙ k)))

@@ -1,3 +1,3 @@
 pub mod ElementLaws
-pub mod KeyLaws
+pub mod ItemLaws
 pub mod OneAnswer

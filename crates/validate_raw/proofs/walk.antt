@@ -1,3 +1,2 @@
 pub mod WalkLaws
 pub mod CycleLaws
-pub mod NestLaws

@@ -19,10 +19,10 @@ unfoldable pub headR : Order → ℕ → R ℕ
 headR o a = padding 4 >> (lengthR o >>= λ n. lyingR a n)
 
 abbrev pub insideIf : Bool → ℕ → ℕ → Opened
-insideIf true f n = Inside f (f + n)
+insideIf true f n = Inside (record { 0 = f }) (record { 0 = n })
 insideIf false f n = Shut (refusal NotEnoughBytesForCollection f)
 
--- where an array's contents begin and end, which must lie before `end`
+-- where an array's contents begin, and how long they are: they must end by `end`
 abbrev pub openedOf : ℕ → Res ℕ → Opened
 openedOf end (got n f) = insideIf (leb (f + n) end) f n
 openedOf end (fault x) = Shut x

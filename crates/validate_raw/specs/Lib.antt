@@ -1,3 +1,4 @@
 pub mod FirstBytes
+pub mod Items
 pub mod Head
 pub mod Walk

@@ -8,7 +8,9 @@ ghost use Rattle.util.specs.Entry.{Window};
 ghost use Rattle.validate_raw.specs.Head.{lyingR, headR, openedOf};
 use basic::spelled::Opened;
 use meaning::Fault;
+use meaning::Length;
 use meaning::Order;
+use meaning::Place;
 use meaning::Reached;
 use util::integers;
 
@@ -27,7 +29,7 @@ fn contents(buf: &[u8], end: usize, off: usize, len: usize, align: usize) -> Ope
             if end - first < len {
                 Opened::Shut(meaning::refuse(Fault::NotEnoughBytesForCollection, first))
             } else {
-                Opened::Inside(first, first + len)
+                Opened::Inside(Place(first), Length(len))
             }
         }
         Reached::Refused(refusal) => Opened::Shut(refusal),
@@ -40,14 +42,15 @@ pub fn opening(order: Order, buf: &[u8], end: usize, off: usize, align: usize) -
     requires { ⌜ T (isAlignment align) ⌝ }
     ensures { λ r. ⌜ r ≡ openedOf end (headR order align (take end (now (buf .entry))) off) ⌝ }
 {
-    match util::padded(buf, end, off, 4) {
+    match util::padded(buf, end, off, types::align(b'a')) {
         Reached::At(place) => {
             let at = place.0;
-            if end - at < 4 {
+            let field = types::size(b'u');
+            if end - at < field {
                 return Opened::Shut(meaning::refuse(Fault::NotEnoughBytes, at));
             }
             let len = integers::load32(order, buf, at) as usize;
-            contents(buf, end, at + 4, len, align)
+            contents(buf, end, at + field, len, align)
         }
         Reached::Refused(refusal) => Opened::Shut(refusal),
     }

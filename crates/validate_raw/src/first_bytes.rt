@@ -2,7 +2,7 @@
 ghost use mathlib.Core.Path.{_≡_};
 ghost use Prim.Native.Nat.{ℕ, _+_};
 ghost use Rattle.meaning.specs.Places.{Typed};
-ghost use Rattle.validate_raw.specs.FirstBytes.{wholeCode, composite, keyPlace};
+ghost use Rattle.validate_raw.specs.FirstBytes.{wholeCode, composite, elementPlace, elementAlign};
 
 // The size of the elements of an array whose number is all that is tested, by their code; 0 for any other.
 // `b` has bits that are no Boolean. `i` is kept one by one, as in the crate: there the fault of a length that is no whole number
@@ -34,18 +34,21 @@ pub fn is_composite(k: u8) -> bool
     }
 }
 
-// Where the key of a dict at `at` stands, and 0 where the type is no dict. Dicts in arrays and alone have one way on, so that a dict's frame is
-// part of the one that every nested value costs.
-pub fn key_place(sig: &[u8], at: usize) -> usize
+// Where the element of the array at `at` stands in the signature. A dict alone begins with its entry.
+pub fn element_place(sig: &[u8], at: usize) -> usize
     requires { ⌜ Typed (now sig) at ⌝ }
-    ensures { λ r. ⌜ r ≡ keyPlace (now (sig .entry)) at ⌝ }
+    ensures { λ r. ⌜ r ≡ elementPlace (now (sig .entry)) at ⌝ }
 {
-    let k = sig[at];
+    if sig[at] == b'a' { at + 1 } else { at }
+}
+
+// What an array's elements or a dict's entries are aligned to, by the first code of their type.
+pub fn element_align(k: u8) -> usize
+    ensures { λ r. ⌜ r ≡ elementAlign k ⌝ }
+{
     if k == b'{' {
-        at + 1
-    } else if k == b'a' {
-        if sig[at + 1] == b'{' { at + 2 } else { 0 }
+        types::align(b'(')
     } else {
-        0
+        types::align(k)
     }
 }

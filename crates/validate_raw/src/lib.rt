@@ -11,6 +11,8 @@ use meaning::Fault;
 use meaning::Length;
 use meaning::Order;
 use meaning::Place;
+use walk::Left;
+use walk::Spot;
 use walk::Walked;
 
 // Whether a value of the type that the signature spells stands at the offset, and how long it is.
@@ -22,8 +24,13 @@ pub fn validate_marshalled(order: Order, offset: Place, buf: &[u8], sig: &[u8]) 
         Counted::Types(n) => {
             if n == 1 {
                 if off <= buf.len() {
-                    match walk::value(order, sig, 0, buf, buf.len(), off, 16) {
-                        Walked::Past(_, end) => {
+                    let at = Spot {
+                        sig: Place(0),
+                        buf: Place(off),
+                    };
+                    match walk::value(order, sig, buf, buf.len(), at, Left { levels: 16 }) {
+                        Walked::Past(past) => {
+                            let end = past.buf.0;
                             let length = end - off;
                             Checked::Accepted(Length(length))
                         }

@@ -6,7 +6,6 @@ ghost use mathlib.Core.Path.{_≡_};
 ghost use lib.Dec.{T};
 ghost use Rattle.meaning.specs.Writers.{isAlignment, writeAt, paddingBytes, integerBytes};
 use meaning::Fault;
-use meaning::Length;
 use meaning::Order;
 use meaning::Place;
 use meaning::Written;
@@ -28,17 +27,16 @@ fn write_integer(width: usize, x: u64, order: Order, buf: &mut [u8], at: usize) 
 }
 
 // Zeros up to the next multiple of `align`.
-pub fn pad_to_align(align: Length, buf: &mut [u8], place: Place) -> Written
-    ensures { λ r. ⌜ r ≡ writeAt (paddingBytes (align .0) (place .0)) (now (buf .entry)) (place .0) .answer ⌝ }
-    ensures { λ r. ⌜ now (buf .exit) ≡ writeAt (paddingBytes (align .0) (place .0)) (now (buf .entry)) (place .0) .after ⌝ }
+pub fn pad_to_align(align: usize, buf: &mut [u8], place: Place) -> Written
+    ensures { λ r. ⌜ r ≡ writeAt (paddingBytes align (place .0)) (now (buf .entry)) (place .0) .answer ⌝ }
+    ensures { λ r. ⌜ now (buf .exit) ≡ writeAt (paddingBytes align (place .0)) (now (buf .entry)) (place .0) .after ⌝ }
 {
-    let to = align.0;
     let at = place.0;
     if buf.len() < at {
         return Written::Refused(meaning::refuse(Fault::BadOffset, at));
     }
-    if util::is_alignment(to) {
-        let count = util::gap(to, at);
+    if util::is_alignment(align) {
+        let count = util::gap(align, at);
         if buf.len() - at < count {
             return Written::Refused(meaning::refuse(Fault::NoRoom, at));
         }

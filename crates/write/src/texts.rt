@@ -59,9 +59,6 @@ pub fn write_signature(val: &[u8], buf: &mut [u8], place: Place) -> Written
     }
     match signature::parse_description(val) {
         Counted::Types(_) => put_sized(Order::Little, 1, val, buf, at),
-        Counted::Refused(refusal) => {
-            let fault = refusal.fault;
-            Written::Refused(meaning::refuse(fault, at))
-        }
+        Counted::Refused(refusal) => Written::Refused(meaning::moved(refusal, at)),
     }
 }

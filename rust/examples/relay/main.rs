@@ -1,7 +1,7 @@
 //! A relay loop: takes messages out of a stream, however the reads cut it, and hands each on whole.
 //!
 //! `main` tries it on a small stream that is cut at every place, and on streams with a fault.
-use millettie::{unmarshal_fixed, unmarshal_header, ByteOrder, FixedValue, Header, Refusal};
+use millettie::{next_message, Next, Refusal};
 use std::fmt;
 use std::io::{self, Read};
 
@@ -43,24 +43,6 @@ impl fmt::Display for Stop {
     }
 }
 
-/// How many bytes there must be before it makes sense to ask about them again, when the answer was "too short". A message's first 16 bytes
-/// say how long all of it is: 16, the fields, padding to 8, the body.
-fn wanted(held: &[u8]) -> usize {
-    let byteorder = if held.first() == Some(&b'B') {
-        ByteOrder::BigEndian
-    } else {
-        ByteOrder::LittleEndian
-    };
-    let length_at = |place| match unmarshal_fixed(byteorder, place, held, b"u") {
-        Ok((FixedValue::Uint32(length), _)) => Some(length as usize),
-        _ => None,
-    };
-    match (length_at(4), length_at(12)) {
-        (Some(body), Some(fields)) => (16 + fields).next_multiple_of(8) + body,
-        _ => 16,
-    }
-}
-
 /// Reads until at least `wanted` bytes are held; false if the stream ends before.
 fn fill(from: &mut impl Read, held: &mut Vec<u8>, wanted: usize) -> io::Result<bool> {
     let mut read = [0; 4096];
@@ -75,37 +57,35 @@ fn fill(from: &mut impl Read, held: &mut Vec<u8>, wanted: usize) -> io::Result<b
     Ok(true)
 }
 
-/// Hands on every whole message that is held, and says how many bytes they took, and why it goes no further.
-fn hand_on_held(held: &[u8], hand_on: &mut impl FnMut(&Header)) -> (usize, Refusal) {
+/// Hands on every whole message that is held: how many bytes they took, and what stands behind them.
+fn hand_on_held(held: &[u8], hand_on: &mut impl FnMut(&[u8])) -> (usize, Next) {
     let mut taken = 0;
     loop {
-        match unmarshal_header(&held[taken..]) {
-            Ok(header) => {
-                hand_on(&header);
-                taken += header.length;
+        match next_message(&held[taken..]) {
+            Next::Whole(length) => {
+                hand_on(&held[taken..taken + length]);
+                taken += length;
             }
-            Err(refusal) => return (taken, refusal),
+            next => return (taken, next),
         }
     }
 }
 
 /// Hands on all messages of a stream, and answers how many bytes they took.
-fn relay(mut from: impl Read, mut hand_on: impl FnMut(&Header)) -> Result<usize, Stop> {
+fn relay(mut from: impl Read, mut hand_on: impl FnMut(&[u8])) -> Result<usize, Stop> {
     let mut held = Vec::new();
     let mut passed = 0;
     loop {
-        let (taken, refusal) = hand_on_held(&held, &mut hand_on);
+        let (taken, next) = hand_on_held(&held, &mut hand_on);
         passed += taken;
         held.drain(..taken);
         let stop = |why| Err(Stop { passed, why });
-        let wanted = wanted(&held);
-        // Too short although all of the message is there: what is too short lies inside of it, and no further byte helps.
-        if !refusal.is_too_short() || wanted <= held.len() {
-            return stop(Why::Refused(refusal));
-        }
-        if wanted > LONGEST {
-            return stop(Why::TooLong(wanted));
-        }
+        let wanted = match next {
+            Next::Cut(wanted) if wanted <= LONGEST => wanted,
+            Next::Cut(wanted) => return stop(Why::TooLong(wanted)),
+            Next::Refused(refusal) => return stop(Why::Refused(refusal)),
+            Next::Whole(_) => continue,
+        };
         match fill(&mut from, &mut held, wanted) {
             Ok(true) => {}
             Ok(false) if held.is_empty() => return Ok(passed),

@@ -48,9 +48,7 @@ fn signal(order: ByteOrder, serial: u32, text: &str) -> Result<Vec<u8>, Refusal>
 /// What the relay handed on, and how it ended.
 fn relayed(pieces: Vec<&[u8]>) -> (Vec<Vec<u8>>, Result<usize, Stop>) {
     let mut messages = Vec::new();
-    let end = relay(Pieces(pieces), |header| {
-        messages.push(header.message().to_vec())
-    });
+    let end = relay(Pieces(pieces), |message| messages.push(message.to_vec()));
     (messages, end)
 }
 

@@ -1,10 +1,7 @@
--- No second place and no second buffer meet a contract of this crate's functions: each is an equation with a definition of what was passed.
-use Rattle.meaning.proofs.OneAnswer.{OneAnswer, OneBuffer, both}
+-- No second place and no second buffer meet this crate's contract, which is an equation with a definition of what was passed.
 use denote.Ref.{now}
+use Rattle.text_out.proofs.OneAnswer.{OnePut, once}
 use Rattle.answer_text.proofs.fixed_text.fixed.Reads as fixed
 
-pub one-fixed : OneAnswer fixed.Learnt
-one-fixed κs a x y s t h k = both (h .place) (k .place)
-
-pub one-fixed-buffer : OneBuffer fixed.Learnt (λ κs s. now (s .0))
-one-fixed-buffer κs a x y s t h k = both (h .after) (k .after)
+pub one-fixed : OnePut fixed.Learnt (λ κs s. now (s .0))
+one-fixed κs a x y s t h k = once h k

@@ -52,7 +52,8 @@ unfolding below
 shown-below c (pos m) f p = let h : m < 0 = ltb-true m 0 p in absurd (omega arith)
 shown-below c (negsuc m) f p = let e : m + 1 ≡ suc m = omega arith in rw (far-read (negsuc m) (below (negsuc m) f p), e)
 
-pub is-shown-below : (c : ℕ) (z : ℤ) → SFits w64 z → ltZ (toZ w64 (ofZ w64 z)) (pos 0) ≡ true → Minus c (natAbs (toZ w64 (ofZ w64 (negsuc 0 -ℤ toZ w64 (ofZ w64 z)))) + 1) ≡ signedShown c z
+pub is-shown-below : (c : ℕ) (z : ℤ) → SFits w64 z → ltZ (toZ w64 (ofZ w64 z)) (pos 0) ≡ true
+    → Minus c (natAbs (toZ w64 (ofZ w64 (negsuc 0 -ℤ toZ w64 (ofZ w64 z)))) + 1) ≡ signedShown c z
 is-shown-below c z f p = rw (toZ-ofZ f) (shown-below c z f (rw (toZ-ofZ f) at p))
 
 shown-above : (c : ℕ) (z : ℤ) → ltZ z (pos 0) ≡ false → Plain c (natAbs z) ≡ signedShown c z
@@ -64,6 +65,10 @@ is-shown-above c z f p = rw (toZ-ofZ f) (shown-above c z (rw (toZ-ofZ f) at p))
 
 pub widened : {w : Width} {z : ℤ} → T (leb (hbits w) 63) → SFits w z → SFits w64 (toZ w (ofZ w z))
 widened {w} {z} t f = rw (toZ-ofZ f) (sfits-widen {w = w} {w′ = w64} t f)
+
+-- and gives it back
+pub read-widened : {w : Width} {z : ℤ} → T (leb (hbits w) 63) → SFits w z → toZ w64 (ofZ w64 (toZ w (ofZ w z))) ≡ z
+read-widened {w} {z} t f = rw (toZ-ofZ f) (toZ-ofZ (sfits-widen {w = w} {w′ = w64} t f))
 
 -- a Boolean as a number
 pub as-number : (b : Bool) → boolByte b ≡ cond b 1 0

@@ -1,10 +1,7 @@
--- No second place and no second buffer meet a contract of this crate's functions: each is an equation with a definition of what was passed.
-use Rattle.meaning.proofs.OneAnswer.{OneAnswer, OneBuffer, both}
+-- No second place and no second buffer meet this crate's contract, which is an equation with a definition of what was passed.
 use denote.Ref.{now}
+use Rattle.text_out.proofs.OneAnswer.{OnePut, once}
 use Rattle.answer_text.proofs.header_text.header.Reads as header
 
-pub one-header : OneAnswer header.Learnt
-one-header κs a x y s t h k = both (h .place) (k .place)
-
-pub one-header-buffer : OneBuffer header.Learnt (λ κs s. now (s .0))
-one-header-buffer κs a x y s t h k = both (h .after) (k .after)
+pub one-header : OnePut header.Learnt (λ κs s. now (s .0))
+one-header κs a x y s t h k = once h k

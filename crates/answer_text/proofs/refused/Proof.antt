@@ -6,8 +6,11 @@ use Rattle.answer_text.proofs.refused.Tie as tie
 
 returns : tie.Need-returns
 returns c =
-    then (c .before .before .before .before .before .before .before .before .labelled .ensures) (rw (c .before .before .before .number .ensures) at (c .before .before .labelled2 .ensures))
+    let p = c .before .before .before .before .before .before .before .before .labelled .ensures in
+    then p (rw (c .before .before .before .number .ensures) at (c .before .before .labelled2 .ensures))
 
 pub refused-spec : {M : Type 1} → statement M
 refused-spec =
-    tie.close (tie.spec (λ c. search needs) (λ c κs. search needs) (λ c. search needs) (λ c κs. search needs) (λ c. search needs) (λ c κs. search needs) (λ c. search needs) returns)
+    tie.close
+    (tie.spec (λ c. search needs) (λ c κs. search needs) (λ c. search needs) (λ c κs. search needs) (λ c. search needs)
+    (λ c κs. search needs) (λ c. search needs) returns)

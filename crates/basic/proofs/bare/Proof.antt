@@ -13,32 +13,6 @@ use Rattle.basic.proofs.BaseLaws.{is-number, as-base}
 use borrow.Author.Needs.{needs}
 use Rattle.basic.proofs.bare.Statement.{statement}
 use Rattle.basic.proofs.bare.Tie as tie
-use Rattle.basic.proofs.bare.Reads as reads
-use Rattle.basic.proofs.bare.Lts as lts
-use Rattle.text.proofs.strings.read_path.Reads as read-path-reads
-use Rattle.text.proofs.strings.read_string.Reads as read-string-reads
-use Rattle.types.proofs.size.Reads as size-reads
-use Rattle.basic.proofs.boolean.Reads as boolean-reads
-use Rattle.basic.proofs.fixed.Reads as fixed-reads
-use Rattle.basic.proofs.spelled.signature_value.Reads as signature-value-reads
-
-read-string-requires : tie.Need-read-string-requires
-read-string-requires c κs = search needs
-
-read-path-requires : tie.Need-read-path-requires
-read-path-requires c κs = search needs
-
-signature-value-requires : tie.Need-signature-value-requires
-signature-value-requires c κs = search needs
-
-boolean-requires : tie.Need-boolean-requires
-boolean-requires c κs = search needs
-
-size-requires : tie.Need-size-requires
-size-requires c κs = search needs
-
-fixed-requires : tie.Need-fixed-requires
-fixed-requires c κs = search needs
 
 returns : tie.Need-returns
 unfolding bareR
@@ -59,21 +33,12 @@ returns-4 c = λ b e. as-base _ _ _ (fix bool) _ (same-code b (fix bool) (sym e 
 returns-5 : tie.Need-returns-5
 unfolding bareR
 returns-5 c =
-    λ b e. (let n = is-number b (λ z. c .before .before .match .rest .0 .0 .0 .1 (e ∙ z)) (λ z. c .before .before .match .rest .0 .0 .1 (e ∙ z)) (λ z. c .before .before .match .rest .0 .1 (e ∙ z)) (λ z. c .before .before .match .rest .1 (e ∙ z)) in
-    as-base _ _ _ (fix (n .of)) _ (n .is) (c .fixed .ensures _ (n .of) (n .any) (c .before .size .ensures ∙ ap sizeCode (e ∙ ap code (n .is)) ∙ size-fix (n .of))))
+    let match = c .before .before .match in
+    λ b e. (let n = is-number b (λ z. match .rest .0 .0 .0 .1 (e ∙ z)) (λ z. match .rest .0 .0 .1 (e ∙ z)) (λ z. match .rest .0 .1 (e ∙ z))
+    (λ z. match .rest .1 (e ∙ z)) in as-base _ _ _ (fix (n .of)) _ (n .is)
+    (c .fixed .ensures _ (n .of) (n .any) (c .before .size .ensures ∙ ap sizeCode (e ∙ ap code (n .is)) ∙ size-fix (n .of))))
 
 pub bare-spec : {M : Type 1} → statement M
 bare-spec =
-    tie.close
-    (tie.spec
-    read-string-requires
-    read-path-requires
-    signature-value-requires
-    boolean-requires
-    size-requires
-    fixed-requires
-    returns
-    returns-2
-    returns-3
-    returns-4
-    returns-5)
+    tie.close (tie.spec (λ c κs. search needs) (λ c κs. search needs) (λ c κs. search needs) (λ c κs. search needs) (λ c κs. search needs)
+    (λ c κs. search needs) returns returns-2 returns-3 returns-4 returns-5)

@@ -7,18 +7,6 @@ use Rattle.basic.proofs.BaseLaws.{number-short, number-read}
 use borrow.Author.Needs.{needs}
 use Rattle.basic.proofs.fixed.Statement.{statement}
 use Rattle.basic.proofs.fixed.Tie as tie
-use Rattle.basic.proofs.fixed.Reads as reads
-use Rattle.basic.proofs.fixed.Lts as lts
-use Rattle.meaning.proofs.refuse.Reads as refuse-reads
-
-sub-if1 : tie.Need-sub-if1
-sub-if1 c = search needs
-
-refuse-requires : tie.Need-refuse-requires
-refuse-requires c κs = search needs
-
-add-t10 : tie.Need-add-t10
-add-t10 c = search needs
 
 returns : tie.Need-returns
 returns c = λ o k a z. number-short o k _ _ _ (length-take-le _ _ (c .before .before .before .pre .held)) _ _ z (omega arith) (c .refuse .ensures)
@@ -27,4 +15,4 @@ returns-2 : tie.Need-returns-2
 returns-2 c = λ o k a z. number-read o k _ _ _ (length-take-le _ _ (c .before .before .pre .held)) _ z (omega arith) (a _)
 
 pub fixed-spec : {M : Type 1} → statement M
-fixed-spec = tie.close (tie.spec sub-if1 refuse-requires add-t10 returns returns-2)
+fixed-spec = tie.close (tie.spec (λ c. search needs) (λ c κs. search needs) (λ c. search needs) returns returns-2)

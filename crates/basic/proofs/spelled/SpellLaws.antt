@@ -12,10 +12,11 @@ use Rattle.meaning.specs.declared.Refusal.{Refusal}
 use Rattle.meaning.specs.declared.Fault.{Fault}
 use Rattle.meaning.specs.declared.Fault.the-variants.{InvalidUtf8, StringContainsNullByte, MissingTerminator, EmptySignature, WrongSignature}
 use Rattle.meaning.specs.declared.Place.{Place}
+use Rattle.meaning.specs.declared.Length.{Length}
 use Rattle.meaning.specs.declared.Reached.the-variants.{At as Reaches, Refused as Stopped}
 use Rattle.meaning.specs.declared.Reached.{Reached}
 use Rattle.meaning.specs.declared.Counted.the-variants.{Types as Counts, Refused as Uncounted}
-use Rattle.meaning.specs.Faults.{refusal}
+use Rattle.meaning.specs.Faults.{refusal, moved}
 use Rattle.meaning.specs.Places.{TypeAt}
 use Rattle.meaning.proofs.PlaceLaws.{whole-type}
 use Rattle.meaning.proofs.Loop.{at-inv, refused-inv}
@@ -48,7 +49,8 @@ text-at o b off s e h =
     let i = bytes-bind-inv 1 off (λ l. bytes (load o l + 1) off >>= λ x. tests off l x) b off s e (sym (here-bind (λ p. bytes 1 p >>= λ l. bytes (load o l + 1) p >>= λ x. tests p l x) b off) ∙ h) in
     let n : ℕ = load o (i .0) in
     let j = bytes-bind-inv (n + 1) off (λ x. tests off (i .0) x) b (i .1) s e (i .6) in
-    let c6 = check-bind-inv (utf8 (take n (j .0))) InvalidUtf8 off (λ z. check (any (take n (j .0))) StringContainsNullByte off >> (check (zeros (drop n (j .0))) MissingTerminator off >> ret (take n (j .0)))) b (j .1) s e (j .6) in
+    let c6 = check-bind-inv (utf8 (take n (j .0))) InvalidUtf8 off
+    (λ z. check (any (take n (j .0))) StringContainsNullByte off >> (check (zeros (drop n (j .0))) MissingTerminator off >> ret (take n (j .0)))) b (j .1) s e (j .6) in
     let c7 = check-bind-inv (any (take n (j .0))) StringContainsNullByte off (λ z. check (zeros (drop n (j .0))) MissingTerminator off >> ret (take n (j .0))) b (j .1) s e (c6 .1) in
     let c8 = check-bind-inv (zeros (drop n (j .0))) MissingTerminator off (λ z. ret (take n (j .0))) b (j .1) s e (c7 .1) in
     let r = ret-inv (take n (j .0)) b (j .1) s e (c8 .1) in
@@ -141,16 +143,16 @@ module _ (o : Order) (buf : List ℕ) (end off : ℕ) (w : Window buf end off) w
     unfolding spelledR
     reads = here-bind (λ q. readSig o >>= λ s. accept (parse s) q) seenPart off ∙ bind-got (readSig o) (λ s. accept (parse s) off) seenPart off (text .0) (p .0) (text .1)
 
-    pub spelt-types : (n : ℕ) → Counts n ≡ countedOf (parse (take (p .0 - 1 - (off + 1)) (drop (off + 1) buf))) → Types n (p .0) ≡ speltOf (spelledR o seenPart off)
+    pub spelt-types : (n : ℕ) → Counts n ≡ countedOf (parse (take (p .0 - 1 - (off + 1)) (drop (off + 1) buf))) → Types n (record { 0 = p .0 }) ≡ speltOf (spelledR o seenPart off)
     spelt-types n k =
         let i = counted-types (parse (text .0)) n (k ∙ ap (λ (s : List ℕ). countedOf (parse s)) same-text) in
-        sym (ap speltOf (reads ∙ ap (λ (q : Parsed). accept q off seenPart (p .0)) (i .1) ∙ accept-got (i .0) off seenPart (p .0)) ∙ ap (λ (m : ℕ). Types m (p .0)) (sym (i .2)))
+        sym (ap speltOf (reads ∙ ap (λ (q : Parsed). accept q off seenPart (p .0)) (i .1) ∙ accept-got (i .0) off seenPart (p .0)) ∙ ap (λ (m : ℕ). Types m (record { 0 = p .0 })) (sym (i .2)))
 
-    pub spelt-refused : (x y : Refusal) → Uncounted x ≡ countedOf (parse (take (p .0 - 1 - (off + 1)) (drop (off + 1) buf))) → y ≡ refusal (x .fault) off → Misspelt y ≡ speltOf (spelledR o seenPart off)
+    pub spelt-refused : (x y : Refusal) → Uncounted x ≡ countedOf (parse (take (p .0 - 1 - (off + 1)) (drop (off + 1) buf))) → y ≡ moved off x → Misspelt y ≡ speltOf (spelledR o seenPart off)
     unfolding accept fail
     spelt-refused x y k e =
         let i = counted-refused (parse (text .0)) x (k ∙ ap (λ (s : List ℕ). countedOf (parse s)) same-text) in
-        rw e (sym (ap speltOf (reads ∙ ap (λ (q : Parsed). accept q off seenPart (p .0)) (i .1)) ∙ ap (λ (z : Refusal). Misspelt (refusal (z .fault) off)) (sym (i .2))))
+        rw e (sym (ap speltOf (reads ∙ ap (λ (q : Parsed). accept q off seenPart (p .0)) (i .1)) ∙ ap (λ (z : Refusal). Misspelt (moved off z)) (sym (i .2))))
 
 -- what a count of types says of a variant
 module _ (o : Order) (buf : List ℕ) (end off : ℕ) (w : Window buf end off) where
@@ -158,11 +160,11 @@ module _ (o : Order) (buf : List ℕ) (end off : ℕ) (w : Window buf end off) w
   unfolding variantTypeR
   variant-type ts e h = here-bind (λ p. spelledR o >>= λ ts. single ts p) (take end buf) off ∙ bind-got (spelledR o) (λ ts. single ts off) (take end buf) off ts e h
 
-  spelt-inv : (n e : ℕ) → Types n e ≡ speltOf (spelledR o (take end buf) off) → (ts : List Ty) × (spelledR o (take end buf) off ≡ got ts e) × (n ≡ length ts)
+  spelt-inv : (n : ℕ) (e : Place) → Types n e ≡ speltOf (spelledR o (take end buf) off) → (ts : List Ty) × (spelledR o (take end buf) off ≡ got ts (e .0)) × (n ≡ length ts)
   spelt-inv n e h = go (spelledR o (take end buf) off) refl h
     where
-      go : (x : Res (List Ty)) → spelledR o (take end buf) off ≡ x → Types n e ≡ speltOf x → (ts : List Ty) × (spelledR o (take end buf) off ≡ got ts e) × (n ≡ length ts)
-      go (got ts d) q k = let z : e ≡ d = cc in (ts, q ∙ ap (λ (y : ℕ). got ts y) (sym z), cc)
+      go : (x : Res (List Ty)) → spelledR o (take end buf) off ≡ x → Types n e ≡ speltOf x → (ts : List Ty) × (spelledR o (take end buf) off ≡ got ts (e .0)) × (n ≡ length ts)
+      go (got ts d) q k = let z : e .0 ≡ d = cc in (ts, q ∙ ap (λ (y : ℕ). got ts y) (sym z), cc)
       go (fault x) q k = absurd (let z : _≡_ {A = ℕ} 0 1 = cc in omega arith)
 
   -- a type, or none
@@ -177,89 +179,93 @@ module _ (o : Order) (buf : List ℕ) (end off : ℕ) (w : Window buf end off) w
           sym (ap (innerOf off) (here-bind (λ p. spelledR o >>= λ ts. single ts p) (take end buf) off
           ∙ bind-fault (spelledR o) (λ ts. single ts off) (take end buf) off x (q ∙ ap (λ (u : Refusal). fault u) (sym z))))
 
-  pub inner-none : (n e : ℕ) (x : Refusal) → n ≡ 0 → Types n e ≡ speltOf (spelledR o (take end buf) off) → x ≡ refusal EmptySignature off → Shut x ≡ innerOf off (variantTypeR o (take end buf) off)
+  pub inner-none : (n : ℕ) (e : Place) (x : Refusal) → n ≡ 0 → Types n e ≡ speltOf (spelledR o (take end buf) off) → x ≡ refusal EmptySignature off → Shut x ≡ innerOf off (variantTypeR o (take end buf) off)
   unfolding single fail
   inner-none n e x z h k = let i = spelt-inv n e h in go (i .0) (i .1) (omega (arith, i .2))
     where
-      go : (ts : List Ty) → spelledR o (take end buf) off ≡ got ts e → length ts ≡ 0 → Shut x ≡ innerOf off (variantTypeR o (take end buf) off)
-      go [] q l = rw k (sym (ap (innerOf off) (variant-type [] e q)))
+      go : (ts : List Ty) → spelledR o (take end buf) off ≡ got ts (e .0) → length ts ≡ 0 → Shut x ≡ innerOf off (variantTypeR o (take end buf) off)
+      go [] q l = rw k (sym (ap (innerOf off) (variant-type [] (e .0) q)))
       go (t ∷ ts) q l = absurd (omega arith)
 
-  pub inner-more : (n e : ℕ) (x : Refusal) → (n ≡ 0 → ⊥) → (n ≡ 1 → ⊥) → Types n e ≡ speltOf (spelledR o (take end buf) off) → x ≡ refusal WrongSignature off → Shut x ≡ innerOf off (variantTypeR o (take end buf) off)
+  pub inner-more : (n : ℕ) (e : Place) (x : Refusal) → (n ≡ 0 → ⊥) → (n ≡ 1 → ⊥) → Types n e ≡ speltOf (spelledR o (take end buf) off)
+      → x ≡ refusal WrongSignature off → Shut x ≡ innerOf off (variantTypeR o (take end buf) off)
   unfolding single fail
   inner-more n e x y z h k = let i = spelt-inv n e h in go (i .0) (i .1) (i .2)
     where
-      go : (ts : List Ty) → spelledR o (take end buf) off ≡ got ts e → n ≡ length ts → Shut x ≡ innerOf off (variantTypeR o (take end buf) off)
+      go : (ts : List Ty) → spelledR o (take end buf) off ≡ got ts (e .0) → n ≡ length ts → Shut x ≡ innerOf off (variantTypeR o (take end buf) off)
       go [] q l = absurd (y l)
       go (t ∷ []) q l = absurd (z l)
-      go (t ∷ u ∷ ts) q l = rw k (sym (ap (innerOf off) (variant-type (t ∷ u ∷ ts) e q)))
+      go (t ∷ u ∷ ts) q l = rw k (sym (ap (innerOf off) (variant-type (t ∷ u ∷ ts) (e .0) q)))
 
-  pub inner-one : (n e : ℕ) → n ≡ 1 → Types n e ≡ speltOf (spelledR o (take end buf) off) → Inside (off + 1) (e - 1) ≡ innerOf off (variantTypeR o (take end buf) off)
+  pub inner-one : (n : ℕ) (e : Place) → n ≡ 1 → Types n e ≡ speltOf (spelledR o (take end buf) off)
+      → Inside (record { 0 = off + 1 }) (record { 0 = e .0 - 1 - (off + 1) }) ≡ innerOf off (variantTypeR o (take end buf) off)
   unfolding single ret
   inner-one n e z h = let i = spelt-inv n e h in go (i .0) (i .1) (sym (i .2) ∙ z)
     where
-      go : (ts : List Ty) → spelledR o (take end buf) off ≡ got ts e → length ts ≡ 1 → Inside (off + 1) (e - 1) ≡ innerOf off (variantTypeR o (take end buf) off)
+      go : (ts : List Ty) → spelledR o (take end buf) off ≡ got ts (e .0) → length ts ≡ 1 → Inside (record { 0 = off + 1 }) (record { 0 = e .0 - 1 - (off + 1) }) ≡ innerOf off (variantTypeR o (take end buf) off)
       go [] q l = absurd (omega arith)
       go (t ∷ u ∷ ts) q l = absurd (omega arith)
-      go (t ∷ []) q l = sym (ap (innerOf off) (variant-type (t ∷ []) e q))
+      go (t ∷ []) q l = sym (ap (innerOf off) (variant-type (t ∷ []) (e .0) q))
 
-  -- the one type of a variant, and where its signature stands: between the length byte and the zero
-  pub record VariantAt (f s : ℕ) : Type 0 where
+  -- the one type of a variant, and where its signature stands: n bytes from f on, between the length byte and the zero
+  pub record VariantAt (f n : ℕ) : Type 0 where
     pub past : off < f
-    pub forward : f ≤ s
-    pub within : s < end
+    pub within : f + n < end
     pub ty : Ty
-    pub reads : variantTypeR o (take end buf) off ≡ got ty (s + 1)
-    pub stands : TypeAt ty (take (s - f) (drop f buf)) 0 (s - f)
+    pub reads : variantTypeR o (take end buf) off ≡ got ty (f + n + 1)
+    pub stands : TypeAt ty (take (f + n - f) (drop f buf)) 0 (f + n - f)
 
-  variant-at : (t : Ty) (e : ℕ) → spelledR o (take end buf) off ≡ got (t ∷ []) e → VariantAt (off + 1) (e - 1)
+  variant-at : (t : Ty) (e : ℕ) → spelledR o (take end buf) off ≡ got (t ∷ []) e → VariantAt (off + 1) (e - 1 - (off + 1))
   unfolding single ret
   variant-at t e q =
       let i = spelled-inv o (take end buf) off (t ∷ []) e q in
       let a = text-at o (take end buf) off (i .0) e (i .1) in
       let le : length (take end buf) ≡ end = length-take-le end buf (w .held) in
-      let m : e - 1 - (off + 1) ≡ length (i .0) = omega (arith, a .ends) in
-      let f : e - 1 + 1 ≡ e = omega (arith, a .ends) in
-      let same : take (e - 1 - (off + 1)) (drop (off + 1) buf) ≡ i .0 =
+      let m : off + 1 + (e - 1 - (off + 1)) - (off + 1) ≡ length (i .0) = omega (arith, a .ends) in
+      let f : off + 1 + (e - 1 - (off + 1)) + 1 ≡ e = omega (arith, a .ends) in
+      let same : take (off + 1 + (e - 1 - (off + 1)) - (off + 1)) (drop (off + 1) buf) ≡ i .0 =
       ap (λ (k : ℕ). take k (drop (off + 1) buf)) m ∙ sym (seen buf end (off + 1) (length (i .0)) (omega (arith, a .ends, a .within)) (w .held)) ∙ sym (a .is) in
       let ty : TypeAt t (i .0) 0 (length (i .0)) = whole-type (i .2) in
       record {
         past = omega arith;
-        forward = omega (arith, a .ends);
         within = omega (arith, a .ends, a .within);
         ty = t;
         reads = variant-type (t ∷ []) e q ∙ ap (λ (k : ℕ). got t k) (sym f);
-        stands = subst (λ (k : ℕ). TypeAt t (take (e - 1 - (off + 1)) (drop (off + 1) buf)) 0 k) (sym m) (subst (λ (s : List ℕ). TypeAt t s 0 (length (i .0))) (sym same) ty);
+        stands =
+            subst (λ (k : ℕ). TypeAt t (take (off + 1 + (e - 1 - (off + 1)) - (off + 1)) (drop (off + 1) buf)) 0 k) (sym m)
+            (subst (λ (s : List ℕ). TypeAt t s 0 (length (i .0))) (sym same) ty);
       }
 
   -- what a caller learns of it
   module _ (q : Opened) (h : q ≡ innerOf off (variantTypeR o (take end buf) off)) where
-    pub inner-at : (f s : ℕ) → q ≡ Inside f s → VariantAt f s
+    pub inner-at : (f : Place) (n : Length) → q ≡ Inside f n → VariantAt (f .0) (n .0)
     unfolding single ret fail variantTypeR
-    inner-at f s k = go (spelledR o (take end buf) off) refl
+    inner-at f n k = go (spelledR o (take end buf) off) refl
       where
-        none : (x : Refusal) → variantTypeR o (take end buf) off ≡ fault x → VariantAt f s
-        none x z = absurd (let y : Inside f s ≡ Shut x = sym k ∙ h ∙ ap (innerOf off) z in let u : _≡_ {A = ℕ} 0 1 = cc in omega arith)
+        none : (x : Refusal) → variantTypeR o (take end buf) off ≡ fault x → VariantAt (f .0) (n .0)
+        none x z = absurd (let y : Inside f n ≡ Shut x = sym k ∙ h ∙ ap (innerOf off) z in let u : _≡_ {A = ℕ} 0 1 = cc in omega arith)
 
-        go : (x : Res (List Ty)) → spelledR o (take end buf) off ≡ x → VariantAt f s
+        go : (x : Res (List Ty)) → spelledR o (take end buf) off ≡ x → VariantAt (f .0) (n .0)
         go (fault x) z = none x (here-bind (λ p. spelledR o >>= λ ts. single ts p) (take end buf) off ∙ bind-fault (spelledR o) (λ ts. single ts off) (take end buf) off x z)
         go (got [] e) z = none _ (variant-type [] e z)
         go (got (t ∷ u ∷ ts) e) z = none _ (variant-type (t ∷ u ∷ ts) e z)
         go (got (t ∷ []) e) z =
-            let y : Inside f s ≡ Inside (off + 1) (e - 1) = sym k ∙ h ∙ ap (innerOf off) (variant-type (t ∷ []) e z) in
-            let a : off + 1 ≡ f = cc in
-            let b : e - 1 ≡ s = cc in
-            subst (λ (x : ℕ). VariantAt f x) b (subst (λ (x : ℕ). VariantAt x (e - 1)) a (variant-at t e z))
+            let first : Place = record { 0 = off + 1 } in
+            let long : Length = record { 0 = e - 1 - (off + 1) } in
+            let y : Inside f n ≡ Inside first long = sym k ∙ h ∙ ap (innerOf off) (variant-type (t ∷ []) e z) in
+            let a : first ≡ f = cc in
+            let b : long ≡ n = cc in
+            subst (λ (x : Length). VariantAt (f .0) (x .0)) b (subst (λ (x : Place). VariantAt (x .0) (long .0)) a (variant-at t e z))
 
     pub inner-shut : (x : Refusal) → q ≡ Shut x → variantTypeR o (take end buf) off ≡ fault x
     inner-shut x k = go (variantTypeR o (take end buf) off) refl
       where
         go : (y : Res Ty) → variantTypeR o (take end buf) off ≡ y → variantTypeR o (take end buf) off ≡ fault x
-        go (got t e) z = absurd (let y : Shut x ≡ Inside (off + 1) (e - 1) = sym k ∙ h ∙ ap (innerOf off) z in let u : _≡_ {A = ℕ} 0 1 = cc in omega arith)
+        go (got t e) z = absurd (let y : Shut x ≡ Inside (record { 0 = off + 1 }) (record { 0 = e - 1 - (off + 1) }) = sym k ∙ h ∙ ap (innerOf off) z in let u : _≡_ {A = ℕ} 0 1 = cc in omega arith)
         go (fault y) z = let a : Shut x ≡ Shut y = sym k ∙ h ∙ ap (innerOf off) z in let u : y ≡ x = cc in z ∙ ap (λ (v : Refusal). fault v) u
 
 abbrev pub spelledTo : Spelt → Reached
-spelledTo (Types n e) = Reaches (record { 0 = e })
+spelledTo (Types n e) = Reaches e
 spelledTo (Misspelt x) = Stopped x
 
 pub spelt-reached : (q : Spelt) (x : Res (List Ty)) → q ≡ speltOf x → spelledTo q ≡ reachedOf x
@@ -267,10 +273,11 @@ spelt-reached q (got ts e) h = rw h
 spelt-reached q (fault x) h = rw h
 
 -- the place after a signature lies past its length byte and its zero
-pub inner-past : (o : Order) (buf : List ℕ) (end off : ℕ) → Window buf end off → (n e : ℕ) → Types n e ≡ speltOf (spelledR o (take end buf) off) → (off + 2 ≤ e) × (e ≤ end)
+pub inner-past : (o : Order) (buf : List ℕ) (end off : ℕ) → Window buf end off → (n : ℕ) (e : Place)
+    → Types n e ≡ speltOf (spelledR o (take end buf) off) → (off + 2 ≤ e .0) × (e .0 ≤ end)
 inner-past o buf end off w n e h =
     let i = spelt-inv o buf end off w n e h in
-    let j = spelled-inv o (take end buf) off (i .0) e (i .1) in
-    let a = text-at o (take end buf) off (j .0) e (j .1) in
+    let j = spelled-inv o (take end buf) off (i .0) (e .0) (i .1) in
+    let a = text-at o (take end buf) off (j .0) (e .0) (j .1) in
     let l : length (take end buf) ≡ end = length-take-le end buf (w .held) in
     (omega (arith, a .ends), omega (arith, a .within))

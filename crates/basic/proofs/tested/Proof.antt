@@ -15,45 +15,26 @@ use Rattle.basic.proofs.BaseLaws.{base-stop, base-bare, base-padding}
 use borrow.Author.Needs.{needs}
 use Rattle.basic.proofs.tested.Statement.{statement}
 use Rattle.basic.proofs.tested.Tie as tie
-use Rattle.basic.proofs.tested.Reads as reads
-use Rattle.basic.proofs.tested.Lts as lts
-use Rattle.types.proofs.align.Reads as align-reads
-use Rattle.util.proofs.padded.Reads as padded-reads
-use Rattle.basic.proofs.bare.Reads as bare-reads
-
-align-requires : tie.Need-align-requires
-align-requires c κs = search needs
 
 padded-requires : tie.Need-padded-requires
 padded-requires c κs =
     let b = c .before .before .pre .0 in
     (c .before .before .pre .1, subst (λ (n : ℕ). T (isAlignment n)) (sym (c .align .ensures ∙ ap alignCode (b .is) ∙ align-base (b .of))) (base-is-alignment (b .of)))
 
-enum-known-place : tie.Need-enum-known-place
-enum-known-place c = search needs
-
 bare-requires : tie.Need-bare-requires
 bare-requires c κs =
     let r = padded-within _ _ _ _ _ _ (c .before .before .before .before .before .before .pre .1) (c .before .before .before .padded .ensures) (c .before .place .given .1) in
     record { inside = r .1; held = c .before .before .before .before .before .before .pre .1 .held }
 
-enum-known-refusal : tie.Need-enum-known-refusal
-enum-known-refusal c = search needs
-
 returns : tie.Need-returns
-returns c = λ b e. base-bare _ b _ _ _ _ (base-padding b _ _ _ _ (c .before .before .before .before .before .align .ensures) e (c .before .before .before .before .padded .ensures) ∙ c .before .before .place .given .1) (c .bare .ensures b e)
+returns c =
+    let align = c .before .before .before .before .before .align in
+    let padded = c .before .before .before .before .padded in
+    λ b e. base-bare _ b _ _ _ _ (base-padding b _ _ _ _ (align .ensures) e (padded .ensures) ∙ c .before .before .place .given .1)
+    (c .bare .ensures b e)
 
 returns-2 : tie.Need-returns-2
 returns-2 c = λ b e. base-stop _ b _ _ _ (base-padding b _ _ _ _ (c .before .before .before .before .align .ensures) e (c .before .before .before .padded .ensures) ∙ c .before .refusal .given .1)
 
 pub tested-spec : {M : Type 1} → statement M
-tested-spec =
-    tie.close
-    (tie.spec
-    align-requires
-    padded-requires
-    enum-known-place
-    bare-requires
-    enum-known-refusal
-    returns
-    returns-2)
+tested-spec = tie.close (tie.spec (λ c κs. search needs) padded-requires (λ c. search needs) bare-requires (λ c. search needs) returns returns-2)

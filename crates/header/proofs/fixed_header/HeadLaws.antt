@@ -17,7 +17,7 @@ use Rattle.meaning.specs.Message.{Fixed}
 use Rattle.meaning.specs.Reader.{got, fault, R, ret, _>>=_, _>>_, check, bytes}
 use Rattle.meaning.specs.ReadMessage.{isMark, orderOf, isKind, kindOf, fixedIn, sizeIn, fixedR}
 use Rattle.meaning.proofs.Local.{bind-got, bind-fault, bytes-yes, bytes-no}
-use Rattle.meaning.proofs.Meets.{check-bind}
+use Rattle.meaning.proofs.Meets.{check-bind, check-stop}
 use Rattle.util.proofs.Windows.{seen}
 use Rattle.header.specs.declared.fixed_header.Began.the-variants.{Read, Refused}
 use Rattle.header.specs.FixedHeader.{beganOf}
@@ -27,11 +27,6 @@ kindThen x = check (isKind (getD x 1 0)) InvalidMessageType 0 >> ret (fixedIn x,
 
 abbrev pub markThen : List ℕ → R (Fixed × ℕ)
 markThen x = check (isMark (getD x 0 0)) InvalidByteOrder 0 >> kindThen x
-
--- a check that fails, and what would have followed
-pub check-stop : {B : Type 0} (a : Bool) (x : Refusal) (f : Unit {0} → R B) (b : List ℕ) (off : ℕ) → a ≡ false → (check a (x .fault) (x .place .0) >>= f) b off ≡ fault x
-unfolding check
-check-stop a x f b off h = bind-fault (check a (x .fault) (x .place .0)) f b off x (rw (h, check))
 
 module _ (b : List ℕ) where
   pub start-short : (x : Refusal) → length b < 12 → x ≡ refusal NotEnoughBytes 0 → Refused x ≡ beganOf (fixedR b 0)
@@ -68,7 +63,7 @@ module _ (b : List ℕ) where
 
         pub start-read : (o : Order) (k : MessageType) (serial size : ℕ) → o ≡ orderOf (getD b 0 0) → k ≡ kindOf (getD b 1 0)
             → serial ≡ load o (take 4 (drop 8 b)) → size ≡ load o (take 4 (drop 4 b))
-            → Read (record { order = o; kind = k; flags = getD b 2 0; version = getD b 3 0; serial = serial; body = size }) ≡ beganOf (fixedR b 0)
+            → Read (record { order = o; kind = k; flags = getD b 2 0; version = getD b 3 0; serial = serial; body = record { 0 = size } }) ≡ beganOf (fixedR b 0)
         start-read o k serial size eo ek es en =
             let m : orderOf (getD first 0 0) ≡ o = ap orderOf (byte 0 (omega arith)) ∙ sym eo in
             let n : kindOf (getD first 1 0) ≡ k = ap kindOf (byte 1 (omega arith)) ∙ sym ek in

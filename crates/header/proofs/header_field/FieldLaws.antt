@@ -3,7 +3,7 @@ use Prim.Native.Nat.{ℕ, _+_, _-_, _≤_, _<_}
 use native.Mathlib.Omega.{arith}
 use mathlib.Core.Bool.{false}
 use mathlib.Core.List.{List}
-use mathlib.Core.Path.{_≡_, refl, ap, sym, _∙_}
+use mathlib.Core.Path.{_≡_, refl, ap, sym, subst, _∙_}
 use lib.ListN.{length, take, drop, getD}
 use lib.Seq.{getD-take, getD-drop}
 use lib.Dec.{eqb, T, eqb-refl}
@@ -11,6 +11,7 @@ use borrow.Author.Tests.{ne-eqb}
 use Rattle.meaning.specs.declared.Order.{Order}
 use Rattle.meaning.specs.declared.Refusal.{Refusal}
 use Rattle.meaning.specs.declared.Place.{Place}
+use Rattle.meaning.specs.declared.Length.{Length}
 use Rattle.meaning.specs.declared.Reached.the-variants.{At, Refused}
 use Rattle.meaning.specs.declared.Entry.the-variants.{Absent}
 use Rattle.meaning.specs.declared.Fault.the-variants.{NotEnoughBytes, WrongSignature, InvalidHeaderField}
@@ -20,21 +21,22 @@ use Rattle.meaning.specs.Signature.{code, parse, spell}
 use Rattle.meaning.specs.Places.{TypeAt, Typed}
 use Rattle.meaning.specs.Message.{Wants, nothing, exactly, anything, wants, Field}
 use Rattle.meaning.specs.Reader.{Res, got, fault, R, ret, fail, _>>=_, check, bytes, reachedOf}
-use Rattle.meaning.specs.ReadValue.{padding, readSig, baseR, read, readVar}
-use Rattle.meaning.specs.ReadMessage.{andR, byteR, oneType, codeOf, ask, typeR, fieldR}
+use Rattle.meaning.specs.ReadValue.{padding, readSig, baseR, andR, read, readVar}
+use Rattle.meaning.specs.ReadMessage.{byteR, oneType, codeOf, ask, typeR, fieldR}
 use Rattle.meaning.proofs.Local.{bind-got, bind-fault, bind-inv, bytes-yes, bytes-no, refuse-alike}
 use Rattle.meaning.proofs.Meets.{check-yes}
 use Rattle.meaning.proofs.Loop.{at-inv, refused-inv}
 use Rattle.meaning.proofs.PlaceLaws.{lies, spelled-last, is-base-of}
+use Rattle.validate_raw.specs.declared.walk.Spot.{Spot}
 use Rattle.validate_raw.specs.declared.walk.Walked.{Walked}
-use Rattle.validate_raw.specs.declared.walk.Walked.the-variants.{Past, Refused as Stopped}
+use Rattle.validate_raw.specs.declared.walk.Walked.the-variants as walked
 use Rattle.basic.specs.declared.spelled.Opened.{Opened}
 use Rattle.basic.specs.declared.spelled.Opened.the-variants.{Inside, Shut}
 use Rattle.validate_raw.specs.Walk.{walkedOf}
 use Rattle.validate_raw.proofs.walk.WalkLaws.{past-inv, stopped-inv}
 use Rattle.header.specs.declared.header_field.FieldRead.{FieldRead}
-use Rattle.header.specs.declared.header_field.FieldRead.the-variants.{Read as Holds, Refused as NoField}
-use Rattle.header.specs.HeaderField.{oneTypeR, OneIs, Known, keptAs, knownTo, contentTo, fieldTo}
+use Rattle.header.specs.declared.header_field.FieldRead.the-variants as fieldRead
+use Rattle.header.specs.HeaderField.{oneTypeR, OneIs, Known, readAs, keptAs, knownTo, contentTo, fieldTo}
 use Rattle.header.proofs.header_field.CodeLaws.{Kept, number, string, object, spelling, Asks, asks, known-asks}
 
 -- what the code learns of a field's signature
@@ -46,11 +48,15 @@ pub record One (o : Order) (buf : List ℕ) (end off f s : ℕ) : Type 0 where
   pub reads : oneTypeR o (take end buf) off ≡ got ty (s + 1)
   pub stands : TypeAt ty (take (s - f) (drop f buf)) 0 (s - f)
 
-pub one-inside : (o : Order) (buf : List ℕ) (end off : ℕ) (q : Opened) (f s : ℕ) → q ≡ Inside f s → OneIs q o buf end off → One o buf end off f s
+pub one-inside : (o : Order) (buf : List ℕ) (end off : ℕ) (q : Opened) (f : Place) (n : Length) → q ≡ Inside f n → OneIs q o buf end off
+    → One o buf end off (f .0) (f .0 + n .0)
 unfolding OneIs
-one-inside o buf end off q f s h k =
+one-inside o buf end off q f n h k =
     let i = rw h at k in
-    record { after = i .0; forward = i .1; within = i .2; ty = i .3 .0; reads = i .3 .1; stands = i .3 .2 }
+    let z : n .0 ≡ f .0 + n .0 - f .0 = omega arith in
+    let y : TypeAt (i .2 .0) (take (f .0 + n .0 - f .0) (drop (f .0) buf)) 0 (f .0 + n .0 - f .0) =
+    subst (λ (m : ℕ). TypeAt (i .2 .0) (take m (drop (f .0) buf)) 0 m) z (i .2 .2) in
+    record { after = i .0; forward = omega arith; within = i .1; ty = i .2 .0; reads = i .2 .1; stands = y }
 
 pub one-shut : (o : Order) (buf : List ℕ) (end off : ℕ) (q : Opened) (x : Refusal) → q ≡ Shut x → OneIs q o buf end off → oneTypeR o (take end buf) off ≡ fault x
 unfolding OneIs
@@ -118,22 +124,22 @@ module _ (o : Order) (c : ℕ) (b : List ℕ) (off : ℕ) where
       let i = bind-inv (readSig o) (λ s. oneType (parse s)) b off t e h in
       bind-got (readSig o) (λ s. oneType (parse s) >>= askThen) b off (i .0) (i .1) (i .2) ∙ bind-got (oneType (parse (i .0))) askThen b (i .1) t e (i .3)
 
-  content-none : (x : Refusal) → typeR o c b off ≡ fault x → NoField x ≡ contentTo c (contentR b off)
+  content-none : (x : Refusal) → typeR o c b off ≡ fault x → fieldRead.Refused x ≡ contentTo c (contentR b off)
   unfolding andR
   content-none x h = sym (ap (contentTo c) (bind-fault (typeR o c) hold b off x h))
 
-  pub content-shut : (x : Refusal) → oneTypeR o b off ≡ fault x → NoField x ≡ contentTo c (contentR b off)
+  pub content-shut : (x : Refusal) → oneTypeR o b off ≡ fault x → fieldRead.Refused x ≡ contentTo c (contentR b off)
   unfolding oneTypeR typeR
   content-shut x h =
       content-none x (refuse-alike (readSig o) (λ s. oneType (parse s)) (λ s. oneType (parse s) >>= askThen) b off x h (λ s e l. bind-fault (oneType (parse s)) askThen b e x l))
 
   module _ (t : Ty) (e : ℕ) (reads : oneTypeR o b off ≡ got t e) where
-    pub content-zero : (x : Refusal) → wants c ≡ nothing → x ≡ refusal InvalidHeaderField 0 → NoField x ≡ contentTo c (contentR b off)
+    pub content-zero : (x : Refusal) → wants c ≡ nothing → x ≡ refusal InvalidHeaderField 0 → fieldRead.Refused x ≡ contentTo c (contentR b off)
     unfolding ask fail
     content-zero x h k =
         rw k (content-none (refusal InvalidHeaderField 0) (type-then t e reads ∙ bind-fault (ask (wants c) t) (λ z. ret t) b e (refusal InvalidHeaderField 0) (ap (λ (w : Wants). ask w t b e) h)))
 
-    pub content-wrong : (k : Base) (x : Refusal) → wants c ≡ exactly k → eqb (codeOf t) (code k) ≡ false → x ≡ refusal WrongSignature 0 → NoField x ≡ contentTo c (contentR b off)
+    pub content-wrong : (k : Base) (x : Refusal) → wants c ≡ exactly k → eqb (codeOf t) (code k) ≡ false → x ≡ refusal WrongSignature 0 → fieldRead.Refused x ≡ contentTo c (contentR b off)
     unfolding ask check
     content-wrong k x h z l =
         rw l (content-none (refusal WrongSignature 0) (type-then t e reads ∙ bind-fault (ask (wants c) t) (λ z. ret t) b e (refusal WrongSignature 0) (ap (λ (w : Wants). ask w t b e) h ∙ rw (z, check))))
@@ -162,33 +168,40 @@ module _ (o : Order) (c : ℕ) (b : List ℕ) (off : ℕ) where
       unfolding ask ret
       held = goes-on (ap (λ (w : Wants). ask w t b e) any)
 
-      pub content-past : (m p : ℕ) → q ≡ Past m p → Holds p 0 Absent ≡ contentTo c (contentR b off)
+      pub content-past : (p : Spot) → q ≡ walked.Past p → readAs (p .buf .0) 0 Absent ≡ contentTo c (contentR b off)
       unfolding ret
-      content-past m p h =
-          let i = past-inv n m p (read o (readVar o 15) t b e) (sym walks ∙ h) in
-          sym (ap (contentTo c) (held ∙ bind-got (read o (readVar o 15) t) (λ v. ret (t, v)) b e (i .0) p (i .1)) ∙ ap (λ (w : Wants). keptAs w c p (t, i .0)) any)
+      content-past p h =
+          let i = past-inv n p (read o (readVar o 15) t b e) (sym walks ∙ h) in
+          sym (ap (contentTo c) (held ∙ bind-got (read o (readVar o 15) t) (λ v. ret (t, v)) b e (i .0) (p .buf .0) (i .1))
+          ∙ ap (λ (w : Wants). keptAs w c (p .buf .0) (t, i .0)) any)
 
-      pub content-stop : (x : Refusal) → q ≡ Stopped x → NoField x ≡ contentTo c (contentR b off)
+      pub content-stop : (x : Refusal) → q ≡ walked.Refused x → fieldRead.Refused x ≡ contentTo c (contentR b off)
       content-stop x h =
           sym (ap (contentTo c) (held ∙ bind-fault (read o (readVar o 15) t) (λ v. ret (t, v)) b e x (stopped-inv n x (read o (readVar o 15) t b e) (sym walks ∙ h))))
 
-module _ (o : Order) (b : List ℕ) (off : ℕ) where
+-- the alignment of a field is what the code read from the table
+module _ (o : Order) (b : List ℕ) (off to : ℕ) (eight : to ≡ 8) where
   abbrev parts : R Field
   parts = andR byteR (λ c. andR (typeR o c) (λ t. read o (readVar o 15) t))
 
   abbrev pairUp : ℕ → R Field
   pairUp c = andR (typeR o c) (λ t. read o (readVar o 15) t) >>= λ w. ret (c, w)
 
-  pub field-stop : (x : Refusal) → reachedOf (padding 8 b off) ≡ Refused x → NoField x ≡ fieldTo (fieldR o b off)
+  pub field-stop : (x : Refusal) → reachedOf (padding to b off) ≡ Refused x → fieldRead.Refused x ≡ fieldTo (fieldR o b off)
   unfolding fieldR
-  field-stop x h = sym (ap fieldTo (bind-fault (padding 8) (λ z. parts) b off x (refused-inv (padding 8 b off) x h)))
+  field-stop x h =
+      let k : reachedOf (padding 8 b off) ≡ Refused x = rw eight at h in
+      sym (ap fieldTo (bind-fault (padding 8) (λ z. parts) b off x (refused-inv (padding 8 b off) x k)))
 
-  module _ (p : Place) (pads : reachedOf (padding 8 b off) ≡ At p) where
+  module _ (p : Place) (pads : reachedOf (padding to b off) ≡ At p) where
     padded : fieldR o b off ≡ parts b (p .0)
     unfolding fieldR
-    padded = let i = at-inv (padding 8 b off) p pads in bind-got (padding 8) (λ z. parts) b off (i .0) (p .0) (i .1)
+    padded =
+        let k : reachedOf (padding 8 b off) ≡ At p = rw eight at pads in
+        let i = at-inv (padding 8 b off) p k in
+        bind-got (padding 8) (λ z. parts) b off (i .0) (p .0) (i .1)
 
-    pub field-short : (x : Refusal) → length b ≤ p .0 → x ≡ refusal NotEnoughBytes 0 → NoField x ≡ fieldTo (fieldR o b off)
+    pub field-short : (x : Refusal) → length b ≤ p .0 → x ≡ refusal NotEnoughBytes 0 → fieldRead.Refused x ≡ fieldTo (fieldR o b off)
     unfolding andR byteR
     field-short x l e =
         let s : byteR b (p .0) ≡ fault (refusal NotEnoughBytes 0) = bind-fault (bytes 1 0) (λ x. ret (getD x 0 0)) b (p .0) (refusal NotEnoughBytes 0) (bytes-no 1 0 b (p .0) (omega arith)) in

@@ -29,8 +29,9 @@ use Rattle.util.specs.Entry.{Window}
 use Rattle.util.proofs.Windows.{seen}
 use Rattle.basic.proofs.spelled.SpellLaws.{text-at}
 use Rattle.header.specs.declared.header_field.FieldRead.{FieldRead}
-use Rattle.header.specs.declared.header_field.FieldRead.the-variants.{Read as Holds, Refused as NoField}
-use Rattle.header.specs.HeaderField.{Known, textTo, entryTo, knownTo}
+use Rattle.header.specs.declared.header_field.FieldRead.the-variants as fieldRead
+use Rattle.meaning.specs.Header.{textEntry, entryAs}
+use Rattle.header.specs.HeaderField.{Known, Stands, readAs, knownTo}
 use Rattle.header.proofs.header_field.CodeLaws.{Kept, number, string, object, spelling, kept}
 
 -- what was read where a known field's value is accepted
@@ -65,42 +66,57 @@ spelling-ends o b p v e h =
     omega (arith, a .ends)
 
 -- a text that begins w bytes after p
-entry-is : (p w e : ℕ) (v : List ℕ) → e ≡ p + w + (length v + 1) → (p + w + 1 ≤ e) × (Text (record { 0 = p + w }) (record { 0 = e - 1 - (p + w) }) ≡ textTo e v)
+entry-is : (p w e : ℕ) (v : List ℕ) → e ≡ p + w + (length v + 1) → (p + w + 1 ≤ e) × (Text (record { 0 = p + w }) (record { 0 = e - 1 - (p + w) }) ≡ textEntry e v)
 entry-is p w e v h =
     let l : e - 1 - (p + w) ≡ length v = omega arith in
     let s : e - 1 - length v ≡ p + w = omega arith in
     (omega arith, rw (l, s))
 
 module _ (o : Order) (c k : ℕ) (b : Base) (b8 : Kept b) (is : k ≡ code b) (s : List ℕ) (p : ℕ) (v : Raw b) (e : ℕ) (h : bareR o b s p ≡ got v e) where
-  number-entry : k ≡ 117 → (p + 4 ≤ length s) × ((n : ℕ) → n ≡ load o (take 4 (drop p s)) → Number n ≡ entryTo e (base b, v))
+  number-entry : k ≡ 117 → (p + 4 ≤ length s) × ((n : ℕ) → n ≡ load o (take 4 (drop p s)) → Number n ≡ entryAs e (base b, v))
   unfolding bareR
   number-entry q = go b b8 is v h
     where
-      go : (b : Base) → Kept b → k ≡ code b → (v : Raw b) → bareR o b s p ≡ got v e → (p + 4 ≤ length s) × ((n : ℕ) → n ≡ load o (take 4 (drop p s)) → Number n ≡ entryTo e (base b, v))
+      go : (b : Base) → Kept b → k ≡ code b → (v : Raw b) → bareR o b s p ≡ got v e → (p + 4 ≤ length s) × ((n : ℕ) → n ≡ load o (take 4 (drop p s)) → Number n ≡ entryAs e (base b, v))
       go (fix u32) number i v h = let j = number-is o s p v e h in (j .0, λ n z. ap Number (z ∙ sym (j .1)))
       go str string i v h = absurd (omega arith)
       go path object i v h = absurd (omega arith)
       go sig spelling i v h = absurd (omega arith)
 
-  spelling-entry : k ≡ 103 → (p + 1 + 1 ≤ e) × (Text (record { 0 = p + 1 }) (record { 0 = e - 1 - (p + 1) }) ≡ entryTo e (base b, v))
+  spelling-entry : k ≡ 103 → (p + 1 + 1 ≤ e) × (Text (record { 0 = p + 1 }) (record { 0 = e - 1 - (p + 1) }) ≡ entryAs e (base b, v))
   unfolding bareR
   spelling-entry q = go b b8 is v h
     where
-      go : (b : Base) → Kept b → k ≡ code b → (v : Raw b) → bareR o b s p ≡ got v e → (p + 1 + 1 ≤ e) × (Text (record { 0 = p + 1 }) (record { 0 = e - 1 - (p + 1) }) ≡ entryTo e (base b, v))
+      go : (b : Base) → Kept b → k ≡ code b → (v : Raw b) → bareR o b s p ≡ got v e → (p + 1 + 1 ≤ e) × (Text (record { 0 = p + 1 }) (record { 0 = e - 1 - (p + 1) }) ≡ entryAs e (base b, v))
       go (fix u32) number i v h = absurd (omega arith)
       go str string i v h = absurd (omega arith)
       go path object i v h = absurd (omega arith)
       go sig spelling i v h = entry-is p 1 e v (spelling-ends o s p v e h)
 
-  text-entry : (k ≡ 117 → ⊥) → (k ≡ 103 → ⊥) → (p + 4 + 1 ≤ e) × (Text (record { 0 = p + 4 }) (record { 0 = e - 1 - (p + 4) }) ≡ entryTo e (base b, v))
+  text-entry : (k ≡ 117 → ⊥) → (k ≡ 103 → ⊥) → (p + 4 + 1 ≤ e) × (Text (record { 0 = p + 4 }) (record { 0 = e - 1 - (p + 4) }) ≡ entryAs e (base b, v))
   unfolding bareR
   text-entry m q = go b b8 is v h
     where
-      go : (b : Base) → Kept b → k ≡ code b → (v : Raw b) → bareR o b s p ≡ got v e → (p + 4 + 1 ≤ e) × (Text (record { 0 = p + 4 }) (record { 0 = e - 1 - (p + 4) }) ≡ entryTo e (base b, v))
+      go : (b : Base) → Kept b → k ≡ code b → (v : Raw b) → bareR o b s p ≡ got v e → (p + 4 + 1 ≤ e) × (Text (record { 0 = p + 4 }) (record { 0 = e - 1 - (p + 4) }) ≡ entryAs e (base b, v))
       go (fix u32) number i v h = absurd (m i)
       go str string i v h = entry-is p 4 e v (text-ends o s p v e h)
       go path object i v h = entry-is p 4 e v (path-ends o s p v e h)
       go sig spelling i v h = absurd (q i)
+
+-- what the code learns of a value that stands there, by the code of its type
+module _ {o : Order} {k : ℕ} {buf : List ℕ} {at next end c : ℕ} {b : Base} {v : Raw b} (h : Stands o k buf at next end c b v) where
+  pub is-number : k ≡ 117 → (at + 4 ≤ end) × ((n : ℕ) → n ≡ load o (take 4 (drop at buf)) → Number n ≡ entryAs next (base b, v))
+  is-number e =
+      let i = number-entry o c k b (kept c b (h .asks)) (h .is) (take end buf) at v next (h .reads) e in
+      let l : at + 4 ≤ end = omega (arith, i .0, length-take-le end buf (h .held)) in
+      (l, λ n z. i .1 n (z ∙ sym (ap (load o) (seen buf end at 4 l (h .held)))))
+
+  pub is-spelling : k ≡ 103 → (at + 1 + 1 ≤ next) × (Text (record { 0 = at + 1 }) (record { 0 = next - 1 - (at + 1) }) ≡ entryAs next (base b, v))
+  is-spelling e = spelling-entry o c k b (kept c b (h .asks)) (h .is) (take end buf) at v next (h .reads) e
+
+  pub is-text : (k ≡ 117 → ⊥) → (k ≡ 103 → ⊥)
+      → (at + 4 + 1 ≤ next) × (Text (record { 0 = at + 4 }) (record { 0 = next - 1 - (at + 4) }) ≡ entryAs next (base b, v))
+  is-text m e = text-entry o c k b (kept c b (h .asks)) (h .is) (take end buf) at v next (h .reads) m e
 
 module _ (o : Order) (c k : ℕ) (kn : Known c k) (buf : List ℕ) (end off : ℕ) (w : Window buf end off) where
   abbrev seenPart : List ℕ
@@ -113,7 +129,7 @@ module _ (o : Order) (c k : ℕ) (kn : Known c k) (buf : List ℕ) (end off : �
   pub only : (r : FieldRead) → r ≡ knownTo c of (baseR o of seenPart off) → (b : Base) → wants c ≡ exactly b → r ≡ knownTo c b (baseR o b seenPart off)
   only r h b e = let z : of ≡ b = let y = kn .asks in cc in subst (λ (d : Base). r ≡ knownTo c d (baseR o d seenPart off)) z h
 
-  pub pad-stop : (x : Refusal) → reachedOf (padding (alignBase of) seenPart off) ≡ Refused x → NoField x ≡ knownTo c of (baseR o of seenPart off)
+  pub pad-stop : (x : Refusal) → reachedOf (padding (alignBase of) seenPart off) ≡ Refused x → fieldRead.Refused x ≡ knownTo c of (baseR o of seenPart off)
   unfolding baseR
   pad-stop x h = sym (ap (knownTo c of) (bind-fault (padding (alignBase of)) (λ z. bareR o of) seenPart off x (refused-inv (padding (alignBase of) seenPart off) x h)))
 
@@ -122,31 +138,15 @@ module _ (o : Order) (c k : ℕ) (kn : Known c k) (buf : List ℕ) (end off : �
     unfolding baseR
     past = let i = at-inv (padding (alignBase of) seenPart off) p pads in bind-got (padding (alignBase of)) (λ z. bareR o of) seenPart off (i .0) (p .0) (i .1)
 
-    pub bare-stop : (x : Refusal) → reachedOf (bareR o of seenPart (p .0)) ≡ Refused x → NoField x ≡ knownTo c of (baseR o of seenPart off)
+    pub bare-stop : (x : Refusal) → reachedOf (bareR o of seenPart (p .0)) ≡ Refused x → fieldRead.Refused x ≡ knownTo c of (baseR o of seenPart off)
     bare-stop x h = sym (ap (knownTo c of) (past ∙ refused-inv (bareR o of seenPart (p .0)) x h))
 
     module _ (q : Place) (reads : reachedOf (bareR o of seenPart (p .0)) ≡ At q) where
-      abbrev value : (v : Raw of) × (bareR o of seenPart (p .0) ≡ got v (q .0))
+      abbrev pub value : (v : Raw of) × (bareR o of seenPart (p .0) ≡ got v (q .0))
       value = at-inv (bareR o of seenPart (p .0)) q reads
 
-      holds : (n : Entry) → n ≡ entryTo (q .0) (base of, value .0) → Holds (q .0) c n ≡ knownTo c of (baseR o of seenPart off)
-      holds n h = ap (λ (y : Entry). Holds (q .0) c y) h ∙ sym (ap (knownTo c of) (past ∙ value .1))
+      pub stood : Stands o k buf (p .0) (q .0) end c of (value .0)
+      stood = record { asks = kn .asks; is = kn .is; held = w .held; reads = value .1 }
 
-      long : length seenPart ≡ end
-      long = length-take-le end buf (w .held)
-
-      pub is-number : k ≡ 117 → (p .0 + 4 ≤ end) × ((n : ℕ) → n ≡ load o (take 4 (drop (p .0) buf)) → Holds (q .0) c (Number n) ≡ knownTo c of (baseR o of seenPart off))
-      is-number e =
-          let i = number-entry o c k of (kept c of (kn .asks)) (kn .is) seenPart (p .0) (value .0) (q .0) (value .1) e in
-          let l : p .0 + 4 ≤ end = omega (arith, i .0, long) in
-          (l, λ n z. holds (Number n) (i .1 n (z ∙ sym (ap (load o) (seen buf end (p .0) 4 l (w .held))))))
-
-      pub is-spelling : k ≡ 103 → (p .0 + 1 + 1 ≤ q .0) × (Holds (q .0) c (Text (record { 0 = p .0 + 1 }) (record { 0 = q .0 - 1 - (p .0 + 1) })) ≡ knownTo c of (baseR o of seenPart off))
-      is-spelling e =
-          let i = spelling-entry o c k of (kept c of (kn .asks)) (kn .is) seenPart (p .0) (value .0) (q .0) (value .1) e in
-          (i .0, holds _ (i .1))
-
-      pub is-text : (k ≡ 117 → ⊥) → (k ≡ 103 → ⊥) → (p .0 + 4 + 1 ≤ q .0) × (Holds (q .0) c (Text (record { 0 = p .0 + 4 }) (record { 0 = q .0 - 1 - (p .0 + 4) })) ≡ knownTo c of (baseR o of seenPart off))
-      is-text m e =
-          let i = text-entry o c k of (kept c of (kn .asks)) (kn .is) seenPart (p .0) (value .0) (q .0) (value .1) m e in
-          (i .0, holds _ (i .1))
+      pub holds : (n : Entry) (r : FieldRead) → n ≡ entryAs (q .0) (base of, value .0) → r ≡ readAs (q .0) c n → r ≡ knownTo c of (baseR o of seenPart off)
+      holds n r h g = g ∙ ap (λ (y : Entry). readAs (q .0) c y) h ∙ sym (ap (knownTo c of) (past ∙ value .1))

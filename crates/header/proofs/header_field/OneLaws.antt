@@ -9,7 +9,7 @@ use Rattle.meaning.specs.declared.Refusal.{Refusal}
 use Rattle.meaning.specs.declared.Fault.the-variants.{NoSignature}
 use Rattle.meaning.specs.declared.Place.{Place}
 use Rattle.meaning.specs.declared.Reached.the-variants.{At, Refused}
-use Rattle.meaning.specs.declared.Counted.the-variants.{Types as Counts, Refused as Uncounted}
+use Rattle.meaning.specs.declared.Counted.the-variants as counted
 use Rattle.meaning.specs.Faults.{refusal}
 use Rattle.meaning.specs.Types.{Ty}
 use Rattle.meaning.specs.Signature.{parse, Parsed, types, refused}
@@ -49,11 +49,11 @@ module _ (o : Order) (buf : List ℕ) (end off : ℕ) (w : Window buf end off) w
         bind-got (readSig o) (λ s. oneType (parse s)) seenPart off spelling (p .0) (text o buf end off w p h .1)
         ∙ ap (λ (y : Parsed). oneType y seenPart (p .0)) (ap parse (sym cut-is) ∙ e)
 
-    pub one-refused : (x y : Refusal) → Uncounted y ≡ countedOf (parse cut) → x ≡ refusal NoSignature 0 → OneIs (Shut x) o buf end off
+    pub one-refused : (x y : Refusal) → counted.Refused y ≡ countedOf (parse cut) → x ≡ refusal NoSignature 0 → OneIs (Shut x) o buf end off
     unfolding OneIs oneType fail
     one-refused x y k e = let i = counted-refused (parse cut) y k in rw e (judged (refused (i .0)) (i .1))
 
-    pub one-other : (n : ℕ) (x : Refusal) → Counts n ≡ countedOf (parse cut) → (n ≡ 1 → ⊥) → x ≡ refusal NoSignature 0 → OneIs (Shut x) o buf end off
+    pub one-other : (n : ℕ) (x : Refusal) → counted.Types n ≡ countedOf (parse cut) → (n ≡ 1 → ⊥) → x ≡ refusal NoSignature 0 → OneIs (Shut x) o buf end off
     unfolding OneIs oneType fail
     one-other n x k z e = let i = counted-types (parse cut) n k in go (i .0) (i .1) (i .2)
       where
@@ -62,19 +62,18 @@ module _ (o : Order) (buf : List ℕ) (end off : ℕ) (w : Window buf end off) w
         go (t ∷ []) q l = absurd (z l)
         go (t ∷ u ∷ ts) q l = rw e (judged (types (t ∷ u ∷ ts)) q)
 
-    pub one-read : (n : ℕ) → Counts n ≡ countedOf (parse cut) → n ≡ 1 → OneIs (Inside (off + 1) (p .0 - 1)) o buf end off
+    pub one-read : (n : ℕ) → counted.Types n ≡ countedOf (parse cut) → n ≡ 1 → OneIs (Inside (record { 0 = off + 1 }) (record { 0 = p .0 - 1 - (off + 1) })) o buf end off
     unfolding OneIs oneType ret
     one-read n k z = let i = counted-types (parse cut) n k in go (i .0) (i .1) (i .2)
       where
-        go : (ts : List Ty) → parse cut ≡ types ts → n ≡ length ts → OneIs (Inside (off + 1) (p .0 - 1)) o buf end off
+        go : (ts : List Ty) → parse cut ≡ types ts → n ≡ length ts → OneIs (Inside (record { 0 = off + 1 }) (record { 0 = p .0 - 1 - (off + 1) })) o buf end off
         go [] q l = absurd (omega arith)
         go (t ∷ u ∷ ts) q l = absurd (omega arith)
         go (t ∷ []) q l =
             let r = text-within o buf end off w p h in
             let a = stands o buf end off w p h in
             let long : length cut ≡ p .0 - 1 - (off + 1) = ap length cut-is ∙ omega (arith, a .ends) in
-            let back : p .0 - 1 + 1 ≡ p .0 = omega arith in (
-              omega arith,
+            let back : off + 1 + (p .0 - 1 - (off + 1)) + 1 ≡ p .0 = omega arith in (
               omega arith,
               omega arith,
               (

@@ -14,6 +14,7 @@ use Rattle.meaning.specs.declared.MessageType.{MessageType}
 use Rattle.meaning.specs.declared.MessageType.the-variants.{Call, Reply, Error, Signal}
 use Rattle.meaning.specs.declared.Refusal.{Refusal}
 use Rattle.meaning.specs.declared.Entry.{Entry}
+use Rattle.meaning.specs.declared.Fields.{Fields}
 use Rattle.meaning.specs.declared.Entry.the-variants.{Absent}
 use Rattle.meaning.specs.declared.Fault.the-variants.{InvalidHeaderFields}
 use Rattle.meaning.specs.Faults.{refusal}
@@ -21,19 +22,20 @@ use Rattle.meaning.specs.Types.{Base, fix, str, path, sig, base, arr, dict, str
 use Rattle.meaning.specs.Message.{Wants, nothing, exactly, anything, wants, Field, encField, count, complete, needed, every, knownCodes}
 use Rattle.meaning.specs.Reader.{Res, got, fault, ret, _>>=_, _>>_, check, many}
 use Rattle.meaning.specs.ReadMessage.{fieldR}
-use Rattle.meaning.specs.Header.{entryAs, entry}
+use Rattle.meaning.specs.Header.{entryAs, endOf, entry, fieldsFrom}
 use Rattle.meaning.proofs.NumberLaws.{Bytes}
 use Rattle.meaning.proofs.Local.{bind-got, bind-fault, many-end, many-round, Cmp, isLe, isGt, cmp}
-use Rattle.meaning.proofs.Meets.{check-bind}
+use Rattle.meaning.proofs.Meets.{check-bind, check-stop}
 use Rattle.meaning.proofs.MessageLocal.{fieldR-local}
 use Rattle.meaning.proofs.MessageMeets.{fieldRs, ne-field}
+use Rattle.meaning.proofs.Rules.{each-from, every-same, fields-same}
 use Rattle.header.specs.declared.header_field.FieldRead.{FieldRead}
-use Rattle.header.specs.declared.header_field.FieldRead.the-variants.{Read as Holds, Refused as NoField}
-use Rattle.header.specs.declared.header_fields.TableRead.the-variants.{Read as Tabled, Refused as NoTable}
-use Rattle.header.specs.HeaderField.{entryTo, keptAs, fieldTo}
-use Rattle.header.specs.HeaderFields.{byCode, firstOf, present, once, fieldsR, fieldsFrom, tableTo}
+use Rattle.header.specs.declared.header_field.FieldEntry.{FieldEntry}
+use Rattle.header.specs.declared.header_field.FieldRead.the-variants as fieldRead
+use Rattle.header.specs.declared.header_fields.TableRead.the-variants as tableRead
+use Rattle.header.specs.HeaderField.{heldAs, keptAs, fieldTo}
+use Rattle.header.specs.HeaderFields.{byCode, firstOf, present, once, fieldsR, tableTo}
 use Rattle.header.proofs.header_field.CodeLaws.{Asks, asks, known-asks, other-asks}
-use Rattle.header.proofs.fixed_header.HeadLaws.{check-stop}
 
 -- one code: seen n times so far, with the entry e, before the fields fs that begin at `at`, of all that begin at `first`
 pub record PerCode (o : Order) (c n : ℕ) (e : Entry) (at : ℕ) (fs : List Field) (first : ℕ) (all : List Field) : Type 0 where
@@ -42,7 +44,7 @@ pub record PerCode (o : Order) (c n : ℕ) (e : Entry) (at : ℕ) (fs : List Fie
   pub entered : firstOf n e (entry o c fs at) ≡ entry o c all first
 
 module _ (o : Order) (c n : ℕ) (e : Entry) (at : ℕ) (f : Field) (fs : List Field) (first : ℕ) (all : List Field) (h : PerCode o c n e at (f ∷ fs) first all) where
-  hit : (new : Entry) (p : ℕ) → f .0 ≡ c → new ≡ entryAs o f at (f .1) → PerCode o c (n + 1) (firstOf n e new) p fs first all
+  hit : (new : Entry) (p : ℕ) → f .0 ≡ c → new ≡ entryAs (endOf o f at) (f .1) → PerCode o c (n + 1) (firstOf n e new) p fs first all
   unfolding count entry
   hit new p q r =
       let y : eqb (f .0) c ≡ true = eq-eqb (f .0) c q in
@@ -55,7 +57,7 @@ module _ (o : Order) (c n : ℕ) (e : Entry) (at : ℕ) (f : Field) (fs : List F
         entered = ap (λ (i : ℕ). firstOf i (firstOf n e new) (entry o c fs p)) z ∙ ap (firstOf n e) (sym m) ∙ h .entered;
       }
 
-  miss : (p : ℕ) → (f .0 ≡ c → ⊥) → p ≡ at + length (encField o f at) → PerCode o c n e p fs first all
+  miss : (p : ℕ) → (f .0 ≡ c → ⊥) → p ≡ endOf o f at → PerCode o c n e p fs first all
   unfolding count entry
   miss p q r =
       let y : eqb (f .0) c ≡ false = ne-eqb (f .0) c q in
@@ -67,23 +69,12 @@ module _ (o : Order) (c n : ℕ) (e : Entry) (at : ℕ) (f : Field) (fs : List F
         entered = ap (firstOf n e) (sym m) ∙ h .entered;
       }
 
--- what a field's end says of its entry
-entry-as : (o : Order) (f : Field) (at : ℕ) (w : Var 16) → entryTo (at + length (encField o f at)) w ≡ entryAs o f at w
-entry-as o f at (base (fix c), v) = refl
-entry-as o f at (base str, v) = refl
-entry-as o f at (base path, v) = refl
-entry-as o f at (base sig, v) = refl
-entry-as o f at (arr t, v) = refl
-entry-as o f at (dict w k t, v) = refl
-entry-as o f at (struct fs, v) = refl
-entry-as o f at (variant, v) = refl
-
 -- a field that was read: kept at its code, or at 0
 pub record Came (o : Order) (b : List ℕ) (at p k : ℕ) (new : Entry) : Type 0 where
   pub field : Field
   pub reads : fieldR o b at ≡ got field p
   pub small : k < 10
-  pub here : (c : ℕ) → 1 ≤ c → k ≡ c → (field .0 ≡ c) × (new ≡ entryTo p (field .1))
+  pub here : (c : ℕ) → 1 ≤ c → k ≡ c → (field .0 ≡ c) × (new ≡ entryAs p (field .1))
   pub other : (c : ℕ) → 1 ≤ c → c < 10 → (k ≡ c → ⊥) → field .0 ≡ c → ⊥
 
 -- a known code asks for a type
@@ -100,50 +91,66 @@ below b c q k y = go (cmp 10 c)
     go (isLe t l) = absurd (let z : anything ≡ exactly b = sym (other-asks c l) ∙ q in let y : _≡_ {A = ℕ} 0 1 = cc in omega arith)
     go (isGt t l) = omega arith
 
-came-kept : (w : Wants) (c : ℕ) → wants c ≡ w → (e : ℕ) (v : Var 16) (p k : ℕ) (new : Entry) → keptAs w c e v ≡ Holds p k new
-    → (e ≡ p) × (k < 10) × ((d : ℕ) → 1 ≤ d → k ≡ d → (c ≡ d) × (new ≡ entryTo p v)) × ((d : ℕ) → 1 ≤ d → d < 10 → (k ≡ d → ⊥) → c ≡ d → ⊥)
-came-kept (exactly b) c q e v p k new h =
-    let z : e ≡ p = cc in
-    let y : c ≡ k = cc in
-    let x : entryTo e v ≡ new = cc in
-    (z, below b c q k y, λ d l m. (y ∙ m, sym x ∙ ap (λ (i : ℕ). entryTo i v) z), λ d l m r s. r (sym y ∙ s))
-came-kept nothing c q e v p k new h =
-    let z : e ≡ p = cc in
-    let y : 0 ≡ k = cc in
-    (z, omega arith, λ d l m. absurd (omega arith), λ d l m r s. not-known nothing c q d l m s (λ b x. let u : _≡_ {A = ℕ} 0 1 = cc in omega arith))
-came-kept anything c q e v p k new h =
-    let z : e ≡ p = cc in
-    let y : 0 ≡ k = cc in
-    (z, omega arith, λ d l m. absurd (omega arith), λ d l m r s. not-known anything c q d l m s (λ b x. let u : _≡_ {A = ℕ} 0 1 = cc in omega arith))
+-- of a field that was read the code says whether it is kept
+abbrev At0 : ℕ → Var 16 → FieldEntry → Type 0
+At0 c v f = (f .code < 10)
+    × ((d : ℕ) → 1 ≤ d → f .code ≡ d → (c ≡ d) × (f .entry ≡ entryAs (f .next .0) v))
+    × ((d : ℕ) → 1 ≤ d → d < 10 → (f .code ≡ d → ⊥) → c ≡ d → ⊥)
 
-pub came : (o : Order) (b : List ℕ) (at : ℕ) (q : FieldRead) (p k : ℕ) (new : Entry) → q ≡ fieldTo (fieldR o b at) → q ≡ Holds p k new → Came o b at p k new
-came o b at q p k new h l = go (fieldR o b at) refl (sym h ∙ l)
+-- a code that is not known is kept nowhere
+unkept : (w : Wants) (c : ℕ) → wants c ≡ w → ((b : Base) → w ≡ exactly b → ⊥) → (v : Var 16) (f : FieldEntry) → f .code ≡ 0 → At0 c v f
+unkept w c q other v f y = (omega arith, λ d l m. absurd (omega arith), λ d l m r s. not-known w c q d l m s other)
+
+came-kept : (w : Wants) (c : ℕ) → wants c ≡ w → (e : ℕ) (v : Var 16) (f : FieldEntry) → keptAs w c e v ≡ fieldRead.Read f → (e ≡ f .next .0) × At0 c v f
+came-kept (exactly b) c q e v f h =
+    let u : heldAs e c (entryAs e v) ≡ f = cc in
+    let z : e ≡ f .next .0 = ap (λ (g : FieldEntry). g .next .0) u in
+    let y : c ≡ f .code = ap (λ (g : FieldEntry). g .code) u in
+    let x : entryAs e v ≡ f .entry = ap (λ (g : FieldEntry). g .entry) u in
+    (z, (below b c q (f .code) y, λ d l m. (y ∙ m, sym x ∙ ap (λ (i : ℕ). entryAs i v) z), λ d l m r s. r (sym y ∙ s)))
+came-kept nothing c q e v f h =
+    let u : heldAs e 0 Absent ≡ f = cc in
+    (ap (λ (g : FieldEntry). g .next .0) u, unkept nothing c q (λ b x. let u : _≡_ {A = ℕ} 0 1 = cc in omega arith) v f (sym (ap (λ (g : FieldEntry). g .code) u)))
+came-kept anything c q e v f h =
+    let u : heldAs e 0 Absent ≡ f = cc in
+    (ap (λ (g : FieldEntry). g .next .0) u, unkept anything c q (λ b x. let u : _≡_ {A = ℕ} 0 1 = cc in omega arith) v f (sym (ap (λ (g : FieldEntry). g .code) u)))
+
+pub came : (o : Order) (b : List ℕ) (at : ℕ) (q : FieldRead) (f : FieldEntry) → q ≡ fieldTo (fieldR o b at) → q ≡ fieldRead.Read f
+    → Came o b at (f .next .0) (f .code) (f .entry)
+came o b at q f h l = go (fieldR o b at) refl (sym h ∙ l)
   where
-    go : (x : Res Field) → fieldR o b at ≡ x → fieldTo x ≡ Holds p k new → Came o b at p k new
-    go (got f e) r z =
-        let i = came-kept (wants (f .0)) (f .0) refl e (f .1) p k new z in
-        record { field = f; reads = r ∙ ap (λ (j : ℕ). got f j) (i .0); small = i .1; here = i .2; other = i .3 }
+    go : (x : Res Field) → fieldR o b at ≡ x → fieldTo x ≡ fieldRead.Read f → Came o b at (f .next .0) (f .code) (f .entry)
+    go (got g e) r z =
+        let i = came-kept (wants (g .0)) (g .0) refl e (g .1) f z in
+        record { field = g; reads = r ∙ ap (λ (j : ℕ). got g j) (i .0); small = i .1 .0; here = i .1 .1; other = i .1 .2 }
     go (fault x) r z = absurd (let y : _≡_ {A = ℕ} 0 1 = cc in omega arith)
 
-pub stops : (o : Order) (b : List ℕ) (at : ℕ) (q : FieldRead) (x : Refusal) → q ≡ fieldTo (fieldR o b at) → q ≡ NoField x → fieldR o b at ≡ fault x
+pub stops : (o : Order) (b : List ℕ) (at : ℕ) (q : FieldRead) (x : Refusal) → q ≡ fieldTo (fieldR o b at) → q ≡ fieldRead.Refused x → fieldR o b at ≡ fault x
 stops o b at q x h l = go (fieldR o b at) refl (sym h ∙ l)
   where
-    none : (w : Wants) (c e : ℕ) (v : Var 16) → keptAs w c e v ≡ NoField x → ⊥
+    none : (w : Wants) (c e : ℕ) (v : Var 16) → keptAs w c e v ≡ fieldRead.Refused x → ⊥
     none nothing c e v z = let y : _≡_ {A = ℕ} 0 1 = cc in omega arith
     none (exactly b) c e v z = let y : _≡_ {A = ℕ} 0 1 = cc in omega arith
     none anything c e v z = let y : _≡_ {A = ℕ} 0 1 = cc in omega arith
 
-    go : (y : Res Field) → fieldR o b at ≡ y → fieldTo y ≡ NoField x → fieldR o b at ≡ fault x
+    go : (y : Res Field) → fieldR o b at ≡ y → fieldTo y ≡ fieldRead.Refused x → fieldR o b at ≡ fault x
     go (got f e) r z = absurd (none (wants (f .0)) (f .0) e (f .1) z)
     go (fault y) r z = let u : y ≡ x = cc in r ∙ ap (λ (v : Refusal). fault v) u
 
 -- where a field ends
 module _ (o : Order) (b : List ℕ) (y : Bytes b) (at p k : ℕ) (new : Entry) (h : Came o b at p k new) (l : at ≤ length b) where
-  pub past : p ≡ at + length (encField o (h .field) at)
+  pub past : p ≡ endOf o (h .field) at
   past = fieldRs o .sound b y at (h .field) p l (h .reads) .1 .end
 
   pub further : (at < p) × (p ≤ length b)
   further = let n = ne-field o (h .field) at in (omega (arith, past), fieldR-local o .bound b at (h .field) p l (h .reads) .1)
+
+-- the arrays after one more field, with the code k
+abbrev pub seenMore : List ℕ → ℕ → List ℕ
+seenMore counts k = set counts k (getD counts k 0 + 1)
+
+abbrev pub keptMore : List Entry → List ℕ → ℕ → Entry → List Entry
+keptMore entries counts k new = set entries k (firstOf (getD counts k 0) (getD entries k Absent) new)
 
 -- the loop at `at`
 pub record Run (o : Order) (b : List ℕ) (n first : ℕ) (entries : List Entry) (counts : List ℕ) (at : ℕ) : Type 0 where
@@ -166,38 +173,42 @@ module _ (o : Order) (b : List ℕ) (n first : ℕ) where
       start c m e fs z y = record { counted = ap (λ (i : ℕ). i + count c fs) z ∙ omega arith; none = λ w. y; entered = ap (λ (i : ℕ). firstOf i e (entry o c fs first)) z }
 
   pub run-step : (y : Bytes b) (entries : List Entry) (counts : List ℕ) (at p k : ℕ) (new : Entry) → length entries ≡ 10 → length counts ≡ 10 → at < length b → (h : Came o b at p k new)
-      → Run o b n first entries counts at → Run o b n first (set entries k (firstOf (getD counts k 0) (getD entries k Absent) new)) (set counts k (getD counts k 0 + 1)) p
+      → Run o b n first entries counts at → Run o b n first (keptMore entries counts k new) (seenMore counts k) p
   unfolding ret
   run-step y entries counts at p k new le lc l h r = go (r .left) (r .enough) (r .refuses) (r .reads)
     where
-      ends : p ≡ at + length (encField o (h .field) at)
+      ends : p ≡ endOf o (h .field) at
       ends = past o b y at p k new h (omega arith)
 
       turn : (fs : List Field) (all : List Field) (c : ℕ) → 1 ≤ c → c < 10 → PerCode o c (getD counts c 0) (getD entries c Absent) at (h .field ∷ fs) first all
-          → PerCode o c (getD (set counts k (getD counts k 0 + 1)) c 0) (getD (set entries k (firstOf (getD counts k 0) (getD entries k Absent) new)) c Absent) p fs first all
+          → PerCode o c (getD (seenMore counts k) c 0) (getD (keptMore entries counts k new) c Absent) p fs first all
       turn fs all c i j s = decide (eqb k c) refl
         where
-          decide : (a : Bool) → eqb k c ≡ a → PerCode o c (getD (set counts k (getD counts k 0 + 1)) c 0) (getD (set entries k (firstOf (getD counts k 0) (getD entries k Absent) new)) c Absent) p fs first all
+          decide : (a : Bool) → eqb k c ≡ a → PerCode o c (getD (seenMore counts k) c 0) (getD (keptMore entries counts k new) c Absent) p fs first all
           decide true q =
               let z : k ≡ c = eqb→eq k c (subst T (sym q) tt) in
               let g = h .here c i z in
-              let s1 : PerCode o c (getD counts k 0) (getD entries k Absent) at (h .field ∷ fs) first all = subst (λ (d : ℕ). PerCode o c (getD counts d 0) (getD entries d Absent) at (h .field ∷ fs) first all) (sym z) s in
-              let t = hit o c (getD counts k 0) (getD entries k Absent) at (h .field) fs first all s1 new p (g .0) (g .1 ∙ ap (λ (d : ℕ). entryTo d (h .field .1)) ends ∙ entry-as o (h .field) at (h .field .1)) in
-              subst (λ (d : ℕ). PerCode o c (getD (set counts k (getD counts k 0 + 1)) d 0) (getD (set entries k (firstOf (getD counts k 0) (getD entries k Absent) new)) d Absent) p fs first all) z
-              (subst (λ (d : ℕ). PerCode o c d (getD (set entries k (firstOf (getD counts k 0) (getD entries k Absent) new)) k Absent) p fs first all) (sym (getD-set-same counts k (getD counts k 0 + 1) 0 (omega (arith, h .small))))
+              let s1 : PerCode o c (getD counts k 0) (getD entries k Absent) at (h .field ∷ fs) first all
+              = subst (λ (d : ℕ). PerCode o c (getD counts d 0) (getD entries d Absent) at (h .field ∷ fs) first all) (sym z) s in
+              let t = hit o c (getD counts k 0) (getD entries k Absent) at (h .field) fs first all s1 new p (g .0) (g .1 ∙ ap (λ (d : ℕ). entryAs d (h .field .1)) ends) in
+              subst (λ (d : ℕ). PerCode o c (getD (seenMore counts k) d 0) (getD (keptMore entries counts k new) d Absent) p fs first all) z
+              (subst (λ (d : ℕ). PerCode o c d (getD (keptMore entries counts k new) k Absent) p fs first all) (sym (getD-set-same counts k (getD counts k 0 + 1) 0 (omega (arith, h .small))))
               (subst (λ (d : Entry). PerCode o c (getD counts k 0 + 1) d p fs first all) (sym (getD-set-same entries k (firstOf (getD counts k 0) (getD entries k Absent) new) Absent (omega (arith, h .small)))) t))
           decide false q =
               let z : (k ≡ c → ⊥) = λ w. subst (λ (a : Bool). T a) (sym (eq-eqb k c w) ∙ q) tt in
               let t = miss o c (getD counts c 0) (getD entries c Absent) at (h .field) fs first all s p (h .other c i j z) ends in
-              subst (λ (d : ℕ). PerCode o c d (getD (set entries k (firstOf (getD counts k 0) (getD entries k Absent) new)) c Absent) p fs first all) (sym (getD-set-other counts k c (getD counts k 0 + 1) 0 (λ w. z (sym w))))
+              subst (λ (d : ℕ). PerCode o c d (getD (keptMore entries counts k new) c Absent) p fs first all) (sym (getD-set-other counts k c (getD counts k 0 + 1) 0 (λ w. z (sym w))))
               (subst (λ (d : Entry). PerCode o c (getD counts c 0) d p fs first all) (sym (getD-set-other entries k c (firstOf (getD counts k 0) (getD entries k Absent) new) Absent (λ w. z (sym w)))) t)
 
       go : (left : ℕ) → length b ≤ at + left → ((x : Refusal) → many left (fieldR o) b at ≡ fault x → many n (fieldR o) b first ≡ fault x)
-          → ((fs : List Field) (e : ℕ) → many left (fieldR o) b at ≡ got fs e → (all : List Field) × (many n (fieldR o) b first ≡ got all e) × ((c : ℕ) → 1 ≤ c → c < 10 → PerCode o c (getD counts c 0) (getD entries c Absent) at fs first all))
-          → Run o b n first (set entries k (firstOf (getD counts k 0) (getD entries k Absent) new)) (set counts k (getD counts k 0 + 1)) p
+          → ((fs : List Field) (e : ℕ) → many left (fieldR o) b at ≡ got fs e
+          → (all : List Field) × (many n (fieldR o) b first ≡ got all e)
+          × ((c : ℕ) → 1 ≤ c → c < 10 → PerCode o c (getD counts c 0) (getD entries c Absent) at fs first all))
+          → Run o b n first (keptMore entries counts k new) (seenMore counts k) p
       go zero a u v = absurd (omega arith)
       go (suc j) a u v =
-          let on : many (suc j) (fieldR o) b at ≡ (many j (fieldR o) >>= λ fs. ret (h .field ∷ fs)) b p = many-round j (fieldR o) b at l ∙ bind-got (fieldR o) (λ g. many j (fieldR o) >>= λ fs. ret (g ∷ fs)) b at (h .field) p (h .reads) in
+          let on : many (suc j) (fieldR o) b at ≡ (many j (fieldR o) >>= λ fs. ret (h .field ∷ fs)) b p
+          = many-round j (fieldR o) b at l ∙ bind-got (fieldR o) (λ g. many j (fieldR o) >>= λ fs. ret (g ∷ fs)) b at (h .field) p (h .reads) in
           record {
             left = j;
             enough = omega (arith, further o b y at p k new h (omega arith) .0);
@@ -206,7 +217,7 @@ module _ (o : Order) (b : List ℕ) (n first : ℕ) where
           }
 
   module _ (entries : List Entry) (counts : List ℕ) (at : ℕ) (kind : MessageType) (r : Run o b n first entries counts at) where
-    pub run-refused : (x : Refusal) → at < length b → fieldR o b at ≡ fault x → NoTable x ≡ tableTo o first (fieldsR o kind n b first)
+    pub run-refused : (x : Refusal) → at < length b → fieldR o b at ≡ fault x → tableRead.Refused x ≡ tableTo o first (fieldsR o kind n b first)
     unfolding fieldsR
     run-refused x l q =
         sym (ap (tableTo o first) (bind-fault (many n (fieldR o)) (λ fs. check (complete kind fs) InvalidHeaderFields 0 >> ret fs) b first x (go (r .left) (r .enough) (r .refuses))))
@@ -251,51 +262,38 @@ module _ (o : Order) (b : List ℕ) (n first : ℕ) where
           needs Signal = rw (at-least 1 (omega arith) (omega arith), at-least 2 (omega arith) (omega arith), at-least 3 (omega arith) (omega arith))
 
           known : every (λ c. leb (getD counts c 0) 1) knownCodes ≡ every (λ c. leb (count c all) 1) knownCodes
-          known = rw (at-most 1 (omega arith) (omega arith), at-most 2 (omega arith) (omega arith), at-most 3 (omega arith) (omega arith), at-most 4 (omega arith) (omega arith), at-most 5 (omega arith) (omega arith), at-most 6 (omega arith) (omega arith), at-most 7 (omega arith) (omega arith), at-most 8 (omega arith) (omega arith), at-most 9 (omega arith) (omega arith))
+          known = every-same (λ c. leb (getD counts c 0) 1) (λ c. leb (count c all) 1) knownCodes
+              (each-from (λ c. leb (getD counts c 0) 1 ≡ leb (count c all) 1) 9 1 (λ c i j. at-most c i (omega arith)))
 
       tested : fieldsR o kind n b first ≡ (check (complete kind all) InvalidHeaderFields 0 >> ret all) b at
       unfolding fieldsR
       tested = bind-got (many n (fieldR o)) (λ fs. check (complete kind fs) InvalidHeaderFields 0 >> ret fs) b first all at (ended .1)
 
-      pub run-incomplete : (x : Refusal) (a : Bool) → a ≡ (present kind counts && once counts) → a ≡ false → x ≡ refusal InvalidHeaderFields 0 → NoTable x ≡ tableTo o first (fieldsR o kind n b first)
+      pub run-incomplete : (x : Refusal) (a : Bool) → a ≡ (present kind counts && once counts) → a ≡ false → x ≡ refusal InvalidHeaderFields 0 → tableRead.Refused x ≡ tableTo o first (fieldsR o kind n b first)
       run-incomplete x a h q e =
           rw e (sym (ap (tableTo o first) (tested ∙ check-stop (complete kind all) (refusal InvalidHeaderFields 0) (λ z. ret all) b at (sym are-complete ∙ sym h ∙ q))))
 
       are-kept : byCode entries ≡ fieldsFrom o all first
-      are-kept =
-          let e1 = is-entry 1 (omega arith) (omega arith) in
-          let e2 = is-entry 2 (omega arith) (omega arith) in
-          let e3 = is-entry 3 (omega arith) (omega arith) in
-          let e4 = is-entry 4 (omega arith) (omega arith) in
-          let e5 = is-entry 5 (omega arith) (omega arith) in
-          let e6 = is-entry 6 (omega arith) (omega arith) in
-          let e7 = is-entry 7 (omega arith) (omega arith) in
-          let e8 = is-entry 8 (omega arith) (omega arith) in
-          let e9 = is-entry 9 (omega arith) (omega arith) in
-          cc
+      are-kept = fields-same (λ c. getD entries c Absent) (λ c. entry o c all first)
+          (each-from (λ c. getD entries c Absent ≡ entry o c all first) 9 1 (λ c i j. is-entry c i (omega arith)))
 
-      pub run-ended : (a : Bool) → a ≡ (present kind counts && once counts) → a ≡ true → Tabled (byCode entries) ≡ tableTo o first (fieldsR o kind n b first)
+      pub run-ended : (a : Bool) → a ≡ (present kind counts && once counts) → a ≡ true → tableRead.Read (byCode entries) ≡ tableTo o first (fieldsR o kind n b first)
       unfolding ret
       run-ended a h q =
-          ap Tabled are-kept ∙ sym (ap (tableTo o first) (tested ∙ check-bind (complete kind all) InvalidHeaderFields 0 (λ z. ret all) b at (subst T (sym (sym are-complete ∙ sym h ∙ q)) tt)))
-
--- the elements of a slice of bytes
-pub bytes-of : (b : List ℕ) → ((i : ℕ) → getD b i 0 < 256) → Bytes b
-bytes-of [] h = tt
-bytes-of (c ∷ cs) h = (h 0, bytes-of cs (λ i. h (suc i)))
+          ap (λ (f : Fields). tableRead.Read f) are-kept ∙ sym (ap (tableTo o first) (tested ∙ check-bind (complete kind all) InvalidHeaderFields 0 (λ z. ret all) b at (subst T (sym (sym are-complete ∙ sym h ∙ q)) tt)))
 
 -- no code is seen more often than there are bytes before the place
-pub few : (counts : List ℕ) (at p k : ℕ) → length counts ≡ 10 → k < 10 → at < p → ((j : ℕ) → getD counts j 0 ≤ at) → (j : ℕ) → getD (set counts k (getD counts k 0 + 1)) j 0 ≤ p
+pub few : (counts : List ℕ) (at p k : ℕ) → length counts ≡ 10 → k < 10 → at < p → ((j : ℕ) → getD counts j 0 ≤ at) → (j : ℕ) → getD (seenMore counts k) j 0 ≤ p
 few counts at p k l m q h j = go (eqb k j) refl
   where
-    go : (a : Bool) → eqb k j ≡ a → getD (set counts k (getD counts k 0 + 1)) j 0 ≤ p
+    go : (a : Bool) → eqb k j ≡ a → getD (seenMore counts k) j 0 ≤ p
     go true e =
         let z : k ≡ j = eqb→eq k j (subst T (sym e) tt) in
-        let y : getD (set counts k (getD counts k 0 + 1)) k 0 ≡ getD counts k 0 + 1 = getD-set-same counts k (getD counts k 0 + 1) 0 (omega arith) in
-        subst (λ (d : ℕ). getD (set counts k (getD counts k 0 + 1)) d 0 ≤ p) z (omega (arith, y, h k))
+        let y : getD (seenMore counts k) k 0 ≡ getD counts k 0 + 1 = getD-set-same counts k (getD counts k 0 + 1) 0 (omega arith) in
+        subst (λ (d : ℕ). getD (seenMore counts k) d 0 ≤ p) z (omega (arith, y, h k))
     go false e =
         let z : (k ≡ j → ⊥) = λ w. subst (λ (a : Bool). T a) (sym (eq-eqb k j w) ∙ e) tt in
-        let y : getD (set counts k (getD counts k 0 + 1)) j 0 ≡ getD counts j 0 = getD-set-other counts k j (getD counts k 0 + 1) 0 (λ w. z (sym w)) in
+        let y : getD (seenMore counts k) j 0 ≡ getD counts j 0 = getD-set-other counts k j (getD counts k 0 + 1) 0 (λ w. z (sym w)) in
         omega (arith, y, h j)
 
 -- an array that holds nothing yet

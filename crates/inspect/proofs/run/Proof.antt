@@ -7,7 +7,7 @@ use Rattle.inspect.proofs.run.Statement.{statement}
 use Rattle.inspect.proofs.run.Tie as tie
 
 abbrev Inv-loop : tie.InvT-loop
-Inv-loop input₀ out₀ stand₀ turns₀ input out stand turns = (stand .held ≤ length input) × (turns < 2 ^ 64) × (length input ≡ length input₀) × (length out ≡ length out₀)
+Inv-loop input₀ out₀ stand₀ turns₀ input out stand turns = (stand .held ≤ length input) × (turns < 2 ^ 64) × (length input ≡ length input₀)
 
 abbrev μ-loop : tie.MeasureT-loop
 μ-loop input₀ out₀ stand₀ turns₀ input out stand turns = turns
@@ -15,4 +15,5 @@ abbrev μ-loop : tie.MeasureT-loop
 pub run-spec : {M : Type 1} → statement M
 run-spec =
     tie.close
-    (tie.spec Inv-loop μ-loop (λ c. search needs) (λ c κs. search needs) (λ c. search needs) (λ c. search needs) (λ c. search needs) (λ c. search needs) (λ c. search needs) (λ c. search needs) (λ c. search needs) (λ c. search needs) (λ c. search needs))
+    (tie.spec Inv-loop μ-loop (λ c. search needs) (λ c κs. search needs) (λ c. search needs) (λ c. search needs) (λ c. search needs)
+    (λ c. search needs) (λ c. search needs) (λ c. search needs) (λ c. search needs))

@@ -7,7 +7,11 @@ use Rattle.lookup.proofs.find.Statement.{statement}
 use Rattle.lookup.proofs.find.Tie as tie
 
 returns : tie.Need-returns
-returns c = c .text-entry .ensures ∙ ap (λ (h : HeaderRead). foundIn h (c .before .before .before .before .before .before .before .args .code)) (sym (c .before .before .before .header .given .1) ∙ c .before .before .before .before .before .unmarshal-header .ensures)
+returns c =
+    let read = c .before .before .before in
+    let header = read .before .before in
+    let a = header .before .before .args in
+    c .text-entry .ensures ∙ ap (λ (h : HeaderRead). foundIn h (a .code)) (sym (read .header .given .1) ∙ header .unmarshal-header .ensures)
 
 returns-2 : tie.Need-returns-2
 returns-2 c = ap (λ (h : HeaderRead). foundIn h (c .before .before .before .before .args .code)) (sym (c .enum-told .given .1) ∙ c .before .before .unmarshal-header .ensures)

@@ -1,6 +1,5 @@
 -- The entry that is found says which part of the message it is; without one the fallback comes back.
 use native.Mathlib.Omega.{arith}
-use Rattle.header.proofs.header_fields.TableLaws.{bytes-of}
 use Rattle.lookup.proofs.LookupLaws.{look-text, look-number, look-absent}
 use borrow.Author.Needs.{needs}
 use Rattle.lookup.proofs.lookup.Statement.{statement}
@@ -8,23 +7,33 @@ use Rattle.lookup.proofs.lookup.Tie as tie
 
 add-past : tie.Need-add-past
 add-past c =
-    let t = look-text (c .before .before .before .before .before .before .before .args .message .now) (c .before .before .before .before .before .before .before .args .code) (c .before .before .before .before .before .before .before .args .fallback .now) (bytes-of (c .before .before .before .before .before .before .before .args .message .now) (λ i. omega (arith, c .before .before .before .before .before .before .shared-slice-known .given i))) _ (c .before .before .before .before .find .ensures) _ _ (c .before .before .place .given .1) in omega (arith, t .0)
+    let found = c .before .before .before .before in
+    let b = found .before .before in
+    let t = look-text _ (b .before .args .code) (b .before .args .fallback .now) (λ i. omega (arith, b .shared-slice-known .given i)) _ (found .find .ensures) _ _ (c .before .before .place .given .1) in
+    omega (arith, t .0)
 
 part-result-end : tie.Need-part-result-end
 part-result-end c =
-    let t = look-text (c .before .before .before .before .before .before .before .args .message .now) (c .before .before .before .before .before .before .before .args .code) (c .before .before .before .before .before .before .before .args .fallback .now) (bytes-of (c .before .before .before .before .before .before .before .args .message .now) (λ i. omega (arith, c .before .before .before .before .before .before .shared-slice-known .given i))) _ (c .before .before .before .before .find .ensures) _ _ (c .before .before .place .given .1) in omega (arith, t .0)
+    let found = c .before .before .before .before in
+    let b = found .before .before in
+    let t = look-text _ (b .before .args .code) (b .before .args .fallback .now) (λ i. omega (arith, b .shared-slice-known .given i)) _ (found .find .ensures) _ _ (c .before .before .place .given .1) in
+    omega (arith, t .0)
 
 returns : tie.Need-returns
 returns c =
-    look-text (c .before .before .before .before .before .before .before .before .args .message .now) (c .before .before .before .before .before .before .before .before .args .code) (c .before .before .before .before .before .before .before .before .args .fallback .now) (bytes-of (c .before .before .before .before .before .before .before .before .args .message .now) (λ i. omega (arith, c .before .before .before .before .before .before .before .shared-slice-known .given i))) _ (c .before .before .before .before .before .find .ensures) _ _ (c .before .before .before .place .given .1) .1
+    let found = c .before .before .before .before .before in
+    let b = found .before .before in
+    look-text _ _ _ (λ i. omega (arith, b .shared-slice-known .given i)) _ (found .find .ensures) _ _ (c .before .before .before .place .given .1) .1
 
 returns-2 : tie.Need-returns-2
 returns-2 c =
-    look-number (c .before .before .before .before .before .args .message .now) (c .before .before .before .before .before .args .code) (c .before .before .before .before .before .args .fallback .now) (bytes-of (c .before .before .before .before .before .args .message .now) (λ i. omega (arith, c .before .before .before .before .shared-slice-known .given i))) _ (c .before .before .find .ensures) _ (c .enum-told .given .1)
+    let b = c .before .before .before .before in
+    look-number _ _ _ (λ i. omega (arith, b .shared-slice-known .given i)) _ (c .before .before .find .ensures) _ (c .enum-told .given .1)
 
 returns-3 : tie.Need-returns-3
 returns-3 c =
-    look-absent (c .before .before .before .before .before .args .message .now) (c .before .before .before .before .before .args .code) (c .before .before .before .before .before .args .fallback .now) (bytes-of (c .before .before .before .before .before .args .message .now) (λ i. omega (arith, c .before .before .before .before .shared-slice-known .given i))) _ (c .before .before .find .ensures) (c .enum-told2 .given .1)
+    let b = c .before .before .before .before in
+    look-absent _ _ _ (λ i. omega (arith, b .shared-slice-known .given i)) _ (c .before .before .find .ensures) (c .enum-told2 .given .1)
 
 pub lookup-spec : {M : Type 1} → statement M
 lookup-spec =

@@ -11,6 +11,4 @@ returns : tie.Need-returns
 returns c = c .of-found .ensures ∙ ap (λ (e : Entry). partOf e (length (c .before .before .before .before .args .fallback .now))) (c .before .find .ensures)
 
 pub mt-lookup-spec : {M : Type 1} → statement M
-mt-lookup-spec =
-    tie.close
-    (tie.spec (λ c. search needs) (λ c. search needs) returns)
+mt-lookup-spec = tie.close (tie.spec (λ c. search needs) (λ c. search needs) returns)

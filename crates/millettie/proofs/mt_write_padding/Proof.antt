@@ -1,20 +1,20 @@
--- The write, handed out.
-use mathlib.Core.Path.{sym, ap, subst, _∙_}
-use Rattle.meaning.specs.declared.Order.{Order}
-use Rattle.meaning.specs.Writers.{writeAt, paddingBytes}
-use Rattle.structs.specs.Answers.{Past, writtenOf}
-use Rattle.structs.proofs.Writes.{write-past}
+-- The write, handed out; padding is the same in either order.
+use mathlib.Core.Path.{refl}
+use Rattle.meaning.specs.declared.Order.the-variants.{Little}
+use Rattle.meaning.specs.Writers.{paddingBytes}
+use Rattle.structs.proofs.Writes.{past, handed}
 use borrow.Author.Needs.{needs}
 use Rattle.millettie.proofs.mt_write_padding.Statement.{statement}
 use Rattle.millettie.proofs.mt_write_padding.Tie as tie
 
-of-written-requires : tie.Need-of-written-requires
-of-written-requires c κs = subst (Past (c .before .before .before .before .before .args .place)) (sym (c .before .before .pad-to-align .ensures .0)) (write-past (c .before .before .before .before .before .args .buf .now) (c .before .before .before .before .before .args .place) (paddingBytes (c .before .before .before .before .before .args .alignment) (c .before .before .before .before .before .args .place)))
-
 returns : tie.Need-returns
-returns c = (c .of-written .ensures ∙ ap (writtenOf (c .before .before .before .before .before .before .args .place)) (c .before .before .before .pad-to-align .ensures .0), c .before .before .before .pad-to-align .ensures .1)
+returns c =
+    let w = c .before .before .before in
+    let a = w .before .before .before .args in
+    handed (λ o. paddingBytes (a .alignment) (a .place)) _ (a .place) {o = Little} refl (w .pad-to-align .ensures) (c .of-written .ensures)
 
 pub mt-write-padding-spec : {M : Type 1} → statement M
 mt-write-padding-spec =
-    tie.close
-    (tie.spec (λ c. search needs) of-written-requires (λ c. search needs) returns)
+    tie.close (tie.spec (λ c. search needs)
+    (λ c κs. let w = c .before .before in let a = w .before .before .before .args in past (λ o. paddingBytes (a .alignment) (a .place)) (a .buf .now) (a .place) {o = Little} refl (w .pad-to-align .ensures))
+    (λ c. search needs) returns)

@@ -1,20 +1,27 @@
--- The write, handed out.
-use mathlib.Core.Path.{sym, ap, subst, _∙_}
-use Rattle.meaning.specs.declared.Order.{Order}
+-- The write, handed out; a signature is the same in either order.
+use mathlib.Core.Path.{refl}
 use Rattle.meaning.specs.declared.Order.the-variants.{Little}
-use Rattle.structs.specs.Answers.{Past, writtenOf}
-use Rattle.structs.proofs.Writes.{write-past}
+use Rattle.meaning.specs.Writers.{signatureBytes}
+use Rattle.structs.proofs.Writes.{past, handed}
 use borrow.Author.Needs.{needs}
 use Rattle.millettie.proofs.mt_write_signature.Statement.{statement}
 use Rattle.millettie.proofs.mt_write_signature.Tie as tie
 
 of-written-requires : tie.Need-of-written-requires
-of-written-requires c κs = subst (Past (c .before .before .before .before .before .before .args .place)) (sym (c .before .before .write-signature .ensures .0 Little)) (write-past (c .before .before .before .before .before .before .args .buf .now) (c .before .before .before .before .before .before .args .place) _)
+of-written-requires c κs =
+    let w = c .before .before in
+    let a = w .before .before .before .before .args in
+    let e = w .write-signature .ensures in
+    past (λ o. signatureBytes o (a .sig .now)) (a .buf .now) (a .place) {o = Little} refl (e .0 Little, e .1 Little)
 
 returns : tie.Need-returns
-returns c = ((λ (o : Order). c .of-written .ensures ∙ ap (writtenOf (c .before .before .before .before .before .before .before .args .place)) (c .before .before .before .write-signature .ensures .0 o)), c .before .before .before .write-signature .ensures .1)
+returns c =
+    let w = c .before .before .before in
+    let a = w .before .before .before .before .args in
+    let e = w .write-signature .ensures in (
+      λ o. handed (λ z. signatureBytes z (a .sig .now)) (a .buf .now) (a .place) {o = o} refl (e .0 o, e .1 o) (c .of-written .ensures) .0,
+      λ o. e .1 o,
+    )
 
 pub mt-write-signature-spec : {M : Type 1} → statement M
-mt-write-signature-spec =
-    tie.close
-    (tie.spec (λ c. search needs) of-written-requires (λ c. search needs) returns)
+mt-write-signature-spec = tie.close (tie.spec (λ c. search needs) of-written-requires (λ c. search needs) returns)

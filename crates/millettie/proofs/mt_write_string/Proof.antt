@@ -1,20 +1,21 @@
 -- The write in the named order, handed out.
-use mathlib.Core.Path.{sym, ap, subst, _∙_}
-use Rattle.meaning.specs.declared.Order.{Order}
-use Rattle.meaning.specs.Writers.{writeAt, stringBytes}
-use Rattle.structs.specs.Answers.{Past, writtenOf}
-use Rattle.structs.proofs.Writes.{write-past}
+use Rattle.meaning.specs.Writers.{stringBytes}
+use Rattle.structs.proofs.Writes.{past, handed}
 use borrow.Author.Needs.{needs}
 use Rattle.millettie.proofs.mt_write_string.Statement.{statement}
 use Rattle.millettie.proofs.mt_write_string.Tie as tie
 
 of-written-requires : tie.Need-of-written-requires
-of-written-requires c κs = subst (Past (c .before .before .before .before .before .before .before .args .place)) (sym (c .before .before .write-string .ensures .0)) (write-past (c .before .before .before .before .before .before .before .args .buf .now) (c .before .before .before .before .before .before .before .args .place) _)
+of-written-requires c κs =
+    let w = c .before .before in
+    let a = w .before .before .before .before .before .args in
+    past (λ o. stringBytes o (a .text .now)) (a .buf .now) (a .place) (w .before .before .order .ensures) (w .write-string .ensures)
 
 returns : tie.Need-returns
-returns c = (c .of-written .ensures ∙ ap (writtenOf (c .before .before .before .before .before .before .before .before .args .place)) (c .before .before .before .write-string .ensures .0 ∙ ap (λ (o : Order). writeAt (stringBytes o (c .before .before .before .before .before .before .before .before .args .text .now)) (c .before .before .before .before .before .before .before .before .args .buf .now) (c .before .before .before .before .before .before .before .before .args .place) .answer) (c .before .before .before .before .before .order .ensures)), c .before .before .before .write-string .ensures .1 ∙ ap (λ (o : Order). writeAt (stringBytes o (c .before .before .before .before .before .before .before .before .args .text .now)) (c .before .before .before .before .before .before .before .before .args .buf .now) (c .before .before .before .before .before .before .before .before .args .place) .after) (c .before .before .before .before .before .order .ensures))
+returns c =
+    let w = c .before .before .before in
+    let a = w .before .before .before .before .before .args in
+    handed (λ o. stringBytes o (a .text .now)) _ (a .place) (w .before .before .order .ensures) (w .write-string .ensures) (c .of-written .ensures)
 
 pub mt-write-string-spec : {M : Type 1} → statement M
-mt-write-string-spec =
-    tie.close
-    (tie.spec (λ c. search needs) (λ c. search needs) of-written-requires (λ c. search needs) returns)
+mt-write-string-spec = tie.close (tie.spec (λ c. search needs) (λ c. search needs) of-written-requires (λ c. search needs) returns)

@@ -18,18 +18,25 @@ abbrev μ-loop : tie.MeasureT-loop
 
 returns : tie.Need-returns Inv-loop μ-loop
 returns c =
-    let a = c .before .before .before .before .before .before .args in let l = c .before .before .before .before .loop in
-    sym ((sym (l .inv .1) ∙ all-step (a .base) (a .s .now) (l .i) (omega arith)) ∙ rw (← c .before .digit .ensures, le-ltb (c .before .digit .result) (a .base) (c .if1 .taken)))
+    let p = c .before .before .before .before in
+    let l = p .loop in
+    let a = p .before .before .args in
+    let d = c .before .digit in
+    sym ((sym (l .inv .1) ∙ all-step (a .base) (a .s .now) (l .i) (omega arith)) ∙ rw (← d .ensures, le-ltb (d .result) (a .base) (c .if1 .taken)))
 
 loop-again : tie.Need-loop-again Inv-loop μ-loop
 loop-again c =
-    let a = c .before .before .before .before .before .before .args in let l = c .before .before .before .before .loop in
-    (omega arith, sym (all-step (a .base) (a .s .now) (l .i) (omega arith) ∙ rw (← c .before .digit .ensures, lt-ltb (c .before .digit .result) (a .base) (c .if1 .left))) ∙ l .inv .1)
+    let p = c .before .before .before .before in
+    let l = p .loop in
+    let a = p .before .before .args in
+    let d = c .before .digit in
+    (omega arith, sym (all-step (a .base) (a .s .now) (l .i) (omega arith) ∙ rw (← d .ensures, lt-ltb (d .result) (a .base) (c .if1 .left))) ∙ l .inv .1)
 
 returns-2 : tie.Need-returns-2 Inv-loop μ-loop
 unfolding allDigits
 returns-2 c =
-    let a = c .before .before .before .args in let l = c .before .loop in
+    let l = c .before .loop in
+    let a = c .before .before .before .args in
     rw (drop-of-length-le (a .s .now) {i = l .i} (omega arith)) at (l .inv .1)
 
 pub all-digits-spec : {M : Type 1} → statement M

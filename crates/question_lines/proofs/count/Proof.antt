@@ -29,7 +29,8 @@ loop-again c =
 returns : tie.Need-returns Inv-loop μ-loop
 unfolding occurrences
 returns c =
-    let a = c .before .before .args in let l = c .before .loop in
+    let l = c .before .loop in
+    let a = c .before .before .args in
     omega (arith, rw (drop-of-length-le (a .s .now) {i = l .i} (omega arith)) at (l .inv .2))
 
 pub count-spec : {M : Type 1} → statement M

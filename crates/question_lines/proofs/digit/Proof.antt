@@ -19,11 +19,13 @@ returns-3 c =
 
 returns-4 : tie.Need-returns-4
 returns-4 c =
-    let a = c .before .before .before .before .args .c in simp (lt-leb a 57 (c .before .before .if2 .left), le-leb 48 a (omega arith), le-leb 97 a (c .before .if3 .left), le-leb a 102 (c .if4 .taken)) (omega arith)
+    let a = c .before .before .before .before .args .c in
+    simp (lt-leb a 57 (c .before .before .if2 .left), le-leb 48 a (omega arith), le-leb 97 a (c .before .if3 .left), le-leb a 102 (c .if4 .taken)) (omega arith)
 
 returns-5 : tie.Need-returns-5
 returns-5 c =
-    let a = c .before .before .before .before .args .c in simp (lt-leb a 57 (c .before .before .if2 .left), le-leb 48 a (omega arith), le-leb 97 a (c .before .if3 .left), lt-leb a 102 (c .if4 .left))
+    let a = c .before .before .before .before .args .c in
+    simp (lt-leb a 57 (c .before .before .if2 .left), le-leb 48 a (omega arith), le-leb 97 a (c .before .if3 .left), lt-leb a 102 (c .if4 .left))
 
 pub digit-spec : {M : Type 1} → statement M
 digit-spec = tie.close (tie.spec (λ c. search needs) returns returns-2 returns-3 returns-4 returns-5)

@@ -18,13 +18,15 @@ returns c =
 returns-2 : tie.Need-returns-2
 unfolding numberOf
 returns-2 c =
-    let s = c .before .before .before .before .before .args .s .now in let d : allDigits 10 s ≡ true = sym (c .before .before .all-digits .ensures) ∙ c .before .if2 .taken in
+    let s = c .before .before .before .before .before .args .s .now in
+    let d : allDigits 10 s ≡ true = sym (c .before .before .all-digits .ensures) ∙ c .before .if2 .taken in
     simp (lt-ltb 0 (length s) (omega arith), d) (c .value .ensures)
 
 returns-3 : tie.Need-returns-3
 unfolding numberOf
 returns-3 c =
-    let s = c .before .before .before .before .args .s .now in let d : allDigits 10 s ≡ false = sym (c .before .all-digits .ensures) ∙ c .if2 .left in
+    let s = c .before .before .before .before .args .s .now in
+    let d : allDigits 10 s ≡ false = sym (c .before .all-digits .ensures) ∙ c .if2 .left in
     simp (lt-ltb 0 (length s) (omega arith), d)
 
 pub number-of-spec : {M : Type 1} → statement M

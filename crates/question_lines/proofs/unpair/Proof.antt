@@ -19,29 +19,37 @@ abbrev μ-loop : tie.MeasureT-loop
 
 mul-out : tie.Need-mul-out Inv-loop μ-loop
 mul-out c =
-    let a = c .before .before .before .before .before .before in
-    omega (arith, c .digit .ensures, digit-at 16 (a .args .s .now) (2 * c .before .before .before .loop .i) (a .pre .2) (omega arith))
+    let l = c .before .before .before in
+    let a = l .before .before .before in
+    omega (arith, c .digit .ensures, digit-at 16 (a .args .s .now) (2 * l .loop .i) (a .pre .2) (omega arith))
 
 add-out : tie.Need-add-out Inv-loop μ-loop
 add-out c =
-    let a = c .before .before .before .before .before .before .before .before in let i = c .before .before .before .before .before .loop .i in
-    omega (arith, c .before .before .digit .ensures, c .digit2 .ensures, digit-at 16 (a .args .s .now) (2 * i) (a .pre .2) (omega arith), digit-at 16 (a .args .s .now) (2 * i + 1) (a .pre .2) (omega arith))
+    let d = c .before .before in
+    let l = d .before .before .before in
+    let a = l .before .before .before in
+    let s = a .args .s .now in
+    let one = digit-at 16 s (2 * l .loop .i) (a .pre .2) (omega arith) in
+    let two = digit-at 16 s (2 * l .loop .i + 1) (a .pre .2) (omega arith) in
+    omega (arith, d .digit .ensures, c .digit2 .ensures)
 
 loop-again : tie.Need-loop-again Inv-loop μ-loop
 loop-again c =
-    let a = c .before .before .before .before .before .before .before .before .args in let l = c .before .before .before .before .before .loop in
-    (omega arith, simp length-set (l .inv .1), rw (c .before .before .digit .ensures, c .digit2 .ensures) (pairs-turn (l .out) _ (a .s .now) (l .i) (omega arith) (l .inv .2)))
-
-same-length : tie.Need-same-length Inv-loop μ-loop
-same-length c = c .before .loop .inv .1
+    let d = c .before .before in
+    let p = d .before .before .before in
+    let l = p .loop in
+    let t = pairs-turn (l .out) _ (p .before .before .before .args .s .now) (l .i) (omega arith) (l .inv .2) in
+    (omega arith, simp length-set (l .inv .1), rw (d .digit .ensures, c .digit2 .ensures) t)
 
 returns : tie.Need-returns Inv-loop μ-loop
 unfolding pairs
 returns c =
-    let a = c .before .before .before .before .args in let l = c .before .loop in
-    rw (drop-of-length-le (a .s .now) {i = 2 * l .i} (omega arith)) at (l .inv .2)
+    let l = c .before .loop in
+    rw (drop-of-length-le (c .before .before .before .before .args .s .now) {i = 2 * l .i} (omega arith)) at (l .inv .2)
 
 pub unpair-spec : {M : Type 1} → statement M
 unpair-spec =
     tie.close
-    (tie.spec Inv-loop μ-loop (λ c. search needs) (λ c. search needs) (λ c. search needs) (λ c κs. search needs) mul-out (λ c. search needs) (λ c. search needs) (λ c. search needs) (λ c κs. search needs) add-out (λ c. search needs) (λ c. search needs) (λ c. search needs) loop-again same-length returns)
+    (tie.spec Inv-loop μ-loop (λ c. search needs) (λ c. search needs) (λ c. search needs) (λ c κs. search needs) mul-out
+    (λ c. search needs) (λ c. search needs) (λ c. search needs) (λ c κs. search needs) add-out
+    (λ c. search needs) (λ c. search needs) (λ c. search needs) loop-again (λ c. c .before .loop .inv .1) returns)

@@ -18,22 +18,28 @@ abbrev μ-loop : tie.MeasureT-loop
 
 returns : tie.Need-returns Inv-loop μ-loop
 returns c =
-    let a = c .before .before .before .before .before .before .args in let l = c .before .before .before .before .loop in
-    too-large (l .n * 10 + c .before .digit .result) (drop (l .i + 1) (a .s .now)) (a .s .now) (omega arith)
-    (rw (c .before .digit .ensures) (sym (value-step (l .n) (a .s .now) (l .i) (omega arith))) ∙ l .inv .2)
+    let p = c .before .before .before .before in
+    let l = p .loop in
+    let s = p .before .before .args .s .now in
+    let d = c .before .digit in
+    too-large (l .n * 10 + d .result) (drop (l .i + 1) s) s (omega arith) (rw (d .ensures) (sym (value-step (l .n) s (l .i) (omega arith))) ∙ l .inv .2)
 
 loop-again : tie.Need-loop-again Inv-loop μ-loop
 loop-again c =
-    let a = c .before .before .before .before .before .before .args in let l = c .before .before .before .before .loop in
-    (omega arith, omega arith, rw (c .before .digit .ensures) (sym (value-step (l .n) (a .s .now) (l .i) (omega arith))) ∙ l .inv .2)
+    let p = c .before .before .before .before in
+    let l = p .loop in
+    let s = p .before .before .args .s .now in
+    (omega arith, omega arith, rw (c .before .digit .ensures) (sym (value-step (l .n) s (l .i) (omega arith))) ∙ l .inv .2)
 
 returns-2 : tie.Need-returns-2 Inv-loop μ-loop
 unfolding valueFrom
 returns-2 c =
-    let a = c .before .before .before .args in let l = c .before .loop in
-    read-whole (l .n) (a .s .now) (l .inv .1) (rw (drop-of-length-le (a .s .now) {i = l .i} (omega arith)) at (l .inv .2))
+    let l = c .before .loop in
+    let s = c .before .before .before .args .s .now in
+    read-whole (l .n) s (l .inv .1) (rw (drop-of-length-le s {i = l .i} (omega arith)) at (l .inv .2))
 
 pub value-spec : {M : Type 1} → statement M
 value-spec =
     tie.close
-    (tie.spec Inv-loop μ-loop (λ c. search needs) (λ c. search needs) (λ c κs. search needs) (λ c. search needs) (λ c. search needs) returns (λ c. search needs) (λ c. search needs) (λ c. search needs) (λ c. search needs) loop-again returns-2)
+    (tie.spec Inv-loop μ-loop (λ c. search needs) (λ c. search needs) (λ c κs. search needs) (λ c. search needs) (λ c. search needs) returns
+    (λ c. search needs) (λ c. search needs) (λ c. search needs) (λ c. search needs) loop-again returns-2)

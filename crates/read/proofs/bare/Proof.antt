@@ -29,11 +29,20 @@ value-requires c κs =
     }
 
 returns-2 : tie.Need-returns-2
-returns-2 c d e = is-valid _ d _ _ _ (c .before .before .before .before .before .before .before .pre .0) (c .before .before .before .before .before .size .ensures ∙ size-of _ d e) (c .before .before .before .before .if1 .left) _ (c .before .before .before .load .ensures) (sym (c .before .if2 .taken) ∙ c .before .before .valid .ensures d e) _ (c .value .ensures d e)
+returns-2 c d e =
+    let t = c .before .before .before .before in
+    let wide = t .before .size .ensures ∙ size-of _ d e in
+    let v = sym (c .before .if2 .taken) ∙ c .before .before .valid .ensures d e in
+    is-valid _ d _ _ _ (t .before .before .before .pre .0) wide (t .if1 .left) _ (c .before .before .before .load .ensures) v _ (c .value .ensures d e)
 
 returns-3 : tie.Need-returns-3
-returns-3 c d e = is-invalid _ d _ _ _ (c .before .before .before .before .before .before .before .pre .0) (c .before .before .before .before .before .size .ensures ∙ size-of _ d e) (c .before .before .before .before .if1 .left) _ (c .before .before .before .load .ensures) (sym (c .before .if2 .left) ∙ c .before .before .valid .ensures d e) _ (c .refuse2 .ensures)
+returns-3 c d e =
+    let t = c .before .before .before .before in
+    let wide = t .before .size .ensures ∙ size-of _ d e in
+    let v = sym (c .before .if2 .left) ∙ c .before .before .valid .ensures d e in
+    is-invalid _ d _ _ _ (t .before .before .before .pre .0) wide (t .if1 .left) _ (c .before .before .before .load .ensures) v _ (c .refuse2 .ensures)
 
 pub bare-spec : {M : Type 1} → statement M
 bare-spec =
-    tie.close (tie.spec (λ c κs. search needs) (λ c. search needs) (λ c κs. search needs) returns load-requires (λ c κs. search needs) value-requires (λ c κs. search needs) returns-2 returns-3)
+    tie.close (tie.spec (λ c κs. search needs) (λ c. search needs) (λ c κs. search needs) returns load-requires (λ c κs. search needs) value-requires
+    (λ c κs. search needs) returns-2 returns-3)

@@ -12,79 +12,16 @@ use Rattle.read.proofs.bits.Tie as tie
 is : {v w : FixedValue} → v ≡ w → bitsOf w ≡ bitsOf v
 is e = sym (ap bitsOf e)
 
-cast-extended : tie.Need-cast-extended
-cast-extended c = widened {w = w16} {z = c .before .v3 .given .0 .0} tt (search needs)
-
-cast-extended-2 : tie.Need-cast-extended-2
-cast-extended-2 c = widened {w = w32} {z = c .before .v5 .given .0 .0} tt (search needs)
-
-returns : tie.Need-returns
-returns c = is (c .before .v .given .1)
-
-returns-2 : tie.Need-returns-2
-returns-2 c = as-byte (c .before .v2 .given .0 .0) ∙ is (c .before .v2 .given .1)
-
-returns-3 : tie.Need-returns-3
-returns-3 c = c .extended .ensures ∙ as-read {w = w16} {z = c .before .before .v3 .given .0 .0} tt (search needs) ∙ is (c .before .before .v3 .given .1)
-
-returns-4 : tie.Need-returns-4
-returns-4 c = is (c .before .v4 .given .1)
-
-returns-5 : tie.Need-returns-5
-returns-5 c = c .extended2 .ensures ∙ as-read {w = w32} {z = c .before .before .v5 .given .0 .0} tt (search needs) ∙ is (c .before .before .v5 .given .1)
-
-returns-6 : tie.Need-returns-6
-returns-6 c = is (c .before .v6 .given .1)
-
-returns-7 : tie.Need-returns-7
-returns-7 c = c .extended3 .ensures ∙ ap extended (toZ-ofZ (search needs)) ∙ is (c .before .before .v7 .given .1)
-
-returns-8 : tie.Need-returns-8
-returns-8 c = is (c .before .v8 .given .1)
-
-returns-9 : tie.Need-returns-9
-returns-9 c = c .double-bits .ensures ∙ is (c .before .before .v9 .given .1)
-
-returns-10 : tie.Need-returns-10
-returns-10 c = is (c .before .v10 .given .1)
-
-returns-11 : tie.Need-returns-11
-returns-11 c = is (c .before .v11 .given .1)
-
 pub bits-spec : {M : Type 1} → statement M
 bits-spec =
-    tie.close
-    (tie.spec
-    (λ c. search needs)
-    (λ c. search needs)
-    (λ c. search needs)
-    (λ c. search needs)
-    (λ c. search needs)
-    cast-extended
-    (λ c κs. search needs)
-    (λ c. search needs)
-    (λ c. search needs)
-    (λ c. search needs)
-    cast-extended-2
-    (λ c κs. search needs)
-    (λ c. search needs)
-    (λ c. search needs)
-    (λ c. search needs)
-    (λ c κs. search needs)
-    (λ c. search needs)
-    (λ c. search needs)
-    (λ c κs. search needs)
-    (λ c. search needs)
-    (λ c. search needs)
-    (λ c. search needs)
-    returns
-    returns-2
-    returns-3
-    returns-4
-    returns-5
-    returns-6
-    returns-7
-    returns-8
-    returns-9
-    returns-10
-    returns-11)
+    tie.close (tie.spec (λ c. search needs) (λ c. search needs) (λ c. search needs) (λ c. search needs) (λ c. search needs)
+    (λ c. widened {w = w16} {z = c .before .v3 .given .0 .0} tt (search needs)) (λ c κs. search needs) (λ c. search needs) (λ c. search needs)
+    (λ c. search needs) (λ c. widened {w = w32} {z = c .before .v5 .given .0 .0} tt (search needs)) (λ c κs. search needs) (λ c. search needs)
+    (λ c. search needs) (λ c. search needs) (λ c κs. search needs) (λ c. search needs) (λ c. search needs) (λ c κs. search needs) (λ c. search needs)
+    (λ c. search needs) (λ c. search needs) (λ c. is (c .before .v .given .1))
+    (λ c. as-byte (c .before .v2 .given .0 .0) ∙ is (c .before .v2 .given .1))
+    (λ c. c .extended .ensures ∙ as-read {w = w16} {z = c .before .before .v3 .given .0 .0} tt (search needs) ∙ is (c .before .before .v3 .given .1))
+    (λ c. is (c .before .v4 .given .1)) (λ c. c .extended2 .ensures ∙ as-read {w = w32} {z = c .before .before .v5 .given .0 .0} tt (search needs)
+    ∙ is (c .before .before .v5 .given .1)) (λ c. is (c .before .v6 .given .1))
+    (λ c. c .extended3 .ensures ∙ ap extended (toZ-ofZ (search needs)) ∙ is (c .before .before .v7 .given .1)) (λ c. is (c .before .v8 .given .1))
+    (λ c. c .double-bits .ensures ∙ is (c .before .before .v9 .given .1)) (λ c. is (c .before .v10 .given .1)) (λ c. is (c .before .v11 .given .1)))

@@ -22,5 +22,4 @@ returns-2 : tie.Need-returns-2
 returns-2 c = extended-above _ (c .before .fits .n) (c .if1 .left)
 
 pub extended-spec : {M : Type 1} → statement M
-extended-spec =
-    tie.close (tie.spec sub-result cast-result sub-result-2 cast-result-2 returns returns-2)
+extended-spec = tie.close (tie.spec sub-result cast-result sub-result-2 cast-result-2 returns returns-2)

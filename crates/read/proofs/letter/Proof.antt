@@ -1,44 +1,18 @@
 -- Each kind by itself.
-use mathlib.Core.Path.{sym, ap}
+use mathlib.Core.Path.{_≡_, sym, ap}
 use Rattle.read.specs.Bits.{letterOf}
+use Rattle.meaning.specs.declared.FixedValue.{FixedValue}
 use borrow.Author.Needs.{needs}
 use Rattle.read.proofs.letter.Statement.{statement}
 use Rattle.read.proofs.letter.Tie as tie
 
-returns : tie.Need-returns
-returns c = sym (ap letterOf (c .enum-told .given .1))
-
-returns-2 : tie.Need-returns-2
-returns-2 c = sym (ap letterOf (c .enum-told2 .given .1))
-
-returns-3 : tie.Need-returns-3
-returns-3 c = sym (ap letterOf (c .enum-told3 .given .1))
-
-returns-4 : tie.Need-returns-4
-returns-4 c = sym (ap letterOf (c .enum-told4 .given .1))
-
-returns-5 : tie.Need-returns-5
-returns-5 c = sym (ap letterOf (c .enum-told5 .given .1))
-
-returns-6 : tie.Need-returns-6
-returns-6 c = sym (ap letterOf (c .enum-told6 .given .1))
-
-returns-7 : tie.Need-returns-7
-returns-7 c = sym (ap letterOf (c .enum-told7 .given .1))
-
-returns-8 : tie.Need-returns-8
-returns-8 c = sym (ap letterOf (c .enum-told8 .given .1))
-
-returns-9 : tie.Need-returns-9
-returns-9 c = sym (ap letterOf (c .enum-told9 .given .1))
-
-returns-10 : tie.Need-returns-10
-returns-10 c = sym (ap letterOf (c .enum-told10 .given .1))
-
-returns-11 : tie.Need-returns-11
-returns-11 c = sym (ap letterOf (c .enum-told11 .given .1))
+is : {v w : FixedValue} → v ≡ w → letterOf w ≡ letterOf v
+is e = sym (ap letterOf e)
 
 pub letter-spec : {M : Type 1} → statement M
 letter-spec =
-    tie.close
-    (tie.spec (λ c. search needs) (λ c. search needs) (λ c. search needs) (λ c. search needs) (λ c. search needs) (λ c. search needs) (λ c. search needs) (λ c. search needs) (λ c. search needs) (λ c. search needs) (λ c. search needs) returns returns-2 returns-3 returns-4 returns-5 returns-6 returns-7 returns-8 returns-9 returns-10 returns-11)
+    tie.close (tie.spec (λ c. search needs) (λ c. search needs) (λ c. search needs) (λ c. search needs) (λ c. search needs) (λ c. search needs)
+    (λ c. search needs) (λ c. search needs) (λ c. search needs) (λ c. search needs) (λ c. search needs) (λ c. is (c .enum-told .given .1))
+    (λ c. is (c .enum-told2 .given .1)) (λ c. is (c .enum-told3 .given .1)) (λ c. is (c .enum-told4 .given .1)) (λ c. is (c .enum-told5 .given .1))
+    (λ c. is (c .enum-told6 .given .1)) (λ c. is (c .enum-told7 .given .1)) (λ c. is (c .enum-told8 .given .1)) (λ c. is (c .enum-told9 .given .1))
+    (λ c. is (c .enum-told10 .given .1)) (λ c. is (c .enum-told11 .given .1)))

@@ -7,15 +7,7 @@ use borrow.Author.Needs.{needs}
 use Rattle.read.proofs.signed16.Statement.{statement}
 use Rattle.read.proofs.signed16.Tie as tie
 
-sub-result-2 : tie.Need-sub-result-2
-sub-result-2 c = fits w16 (65535 - c .before .args .bits) (omega arith)
-
-returns : tie.Need-returns
-returns c = low w16 (c .before .args .bits) (omega arith)
-
-returns-2 : tie.Need-returns-2
-returns-2 c = high w16 (c .before .args .bits) (omega arith) (omega arith)
-
 pub signed16-spec : {M : Type 1} → statement M
 signed16-spec =
-    tie.close (tie.spec (λ c. search needs) (λ c. search needs) (λ c. search needs) sub-result-2 returns returns-2)
+    tie.close (tie.spec (λ c. search needs) (λ c. search needs) (λ c. search needs) (λ c. fits w16 (65535 - c .before .args .bits) (omega arith))
+    (λ c. low w16 (c .before .args .bits) (omega arith)) (λ c. high w16 (c .before .args .bits) (omega arith) (omega arith)))

@@ -7,15 +7,7 @@ use borrow.Author.Needs.{needs}
 use Rattle.read.proofs.signed32.Statement.{statement}
 use Rattle.read.proofs.signed32.Tie as tie
 
-sub-result-2 : tie.Need-sub-result-2
-sub-result-2 c = fits w32 (4294967295 - c .before .args .bits) (omega arith)
-
-returns : tie.Need-returns
-returns c = low w32 (c .before .args .bits) (omega arith)
-
-returns-2 : tie.Need-returns-2
-returns-2 c = high w32 (c .before .args .bits) (omega arith) (omega arith)
-
 pub signed32-spec : {M : Type 1} → statement M
 signed32-spec =
-    tie.close (tie.spec (λ c. search needs) (λ c. search needs) (λ c. search needs) sub-result-2 returns returns-2)
+    tie.close (tie.spec (λ c. search needs) (λ c. search needs) (λ c. search needs) (λ c. fits w32 (4294967295 - c .before .args .bits) (omega arith))
+    (λ c. low w32 (c .before .args .bits) (omega arith)) (λ c. high w32 (c .before .args .bits) (omega arith) (omega arith)))

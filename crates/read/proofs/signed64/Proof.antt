@@ -7,15 +7,8 @@ use borrow.Author.Needs.{needs}
 use Rattle.read.proofs.signed64.Statement.{statement}
 use Rattle.read.proofs.signed64.Tie as tie
 
-sub-result-2 : tie.Need-sub-result-2
-sub-result-2 c = fits w64 (18446744073709551615 - c .before .args .bits) (omega arith)
-
-returns : tie.Need-returns
-returns c = low w64 (c .before .args .bits) (omega arith)
-
-returns-2 : tie.Need-returns-2
-returns-2 c = high w64 (c .before .args .bits) (omega arith) (omega arith)
-
 pub signed64-spec : {M : Type 1} → statement M
 signed64-spec =
-    tie.close (tie.spec (λ c. search needs) (λ c. search needs) (λ c. search needs) sub-result-2 returns returns-2)
+    tie.close (tie.spec (λ c. search needs) (λ c. search needs) (λ c. search needs)
+    (λ c. fits w64 (18446744073709551615 - c .before .args .bits) (omega arith)) (λ c. low w64 (c .before .args .bits) (omega arith))
+    (λ c. high w64 (c .before .args .bits) (omega arith) (omega arith)))

@@ -32,20 +32,38 @@ padded-requires c κs =
 
 bare-requires : tie.Need-bare-requires
 bare-requires c κs =
-    let k = chosen _ _ (c .before .before .before .before .before .before .size .ensures) (c .before .before .before .before .before .if2 .left) in
-    let w = reached-within (padding _) (padding-local _ .bound) _ _ _ _ (record { inside = c .before .before .before .before .if3 .left; held = omega arith }) (sym (c .before .place .given .1) ∙ c .before .before .before .padded .ensures) in
+    let the-size = c .before .before .before .before .before .before .size in
+    let if2 = c .before .before .before .before .before .if2 in
+    let if3 = c .before .before .before .before .if3 in
+    let padded = c .before .before .before .padded in
+    let k = chosen _ _ (the-size .ensures) (if2 .left) in
+    let w = reached-within (padding _) (padding-local _ .bound) _ _ _ _ (record { inside = if3 .left; held = omega arith })
+    (sym (c .before .place .given .1) ∙ padded .ensures) in
     (w .1, record { type = k .type; coded = k .coded })
 
 returns-4 : tie.Need-returns-4
 returns-4 c =
-    let k = chosen _ _ (c .before .before .before .before .before .before .before .size .ensures) (c .before .before .before .before .before .before .if2 .left) in
-    behind _ _ _ _ (k .type) _ (names _ (k .type) (c .before .before .before .before .before .before .before .before .before .if1 .left) (k .coded)) (k .wide) (c .before .before .before .before .before .if3 .left) _ (sym (c .before .before .place .given .1) ∙ c .before .before .before .before .padded .ensures) _ (c .bare .ensures (k .type) (k .coded))
+    let if1 = c .before .before .before .before .before .before .before .before .before .if1 in
+    let the-size = c .before .before .before .before .before .before .before .size in
+    let if2 = c .before .before .before .before .before .before .if2 in
+    let if3 = c .before .before .before .before .before .if3 in
+    let padded = c .before .before .before .before .padded in
+    let k = chosen _ _ (the-size .ensures) (if2 .left) in
+    behind _ _ _ _ (k .type) _ (names _ (k .type) (if1 .left) (k .coded)) (k .wide) (if3 .left) _
+    (sym (c .before .before .place .given .1) ∙ padded .ensures) _ (c .bare .ensures (k .type) (k .coded))
 
 returns-5 : tie.Need-returns-5
 returns-5 c =
-    let k = chosen _ _ (c .before .before .before .before .before .before .size .ensures) (c .before .before .before .before .before .if2 .left) in
-    bad-padding _ _ _ _ (k .type) _ (names _ (k .type) (c .before .before .before .before .before .before .before .before .if1 .left) (k .coded)) (k .wide) (c .before .before .before .before .if3 .left) _ (sym (c .before .refusal .given .1) ∙ c .before .before .before .padded .ensures)
+    let if1 = c .before .before .before .before .before .before .before .before .if1 in
+    let the-size = c .before .before .before .before .before .before .size in
+    let if2 = c .before .before .before .before .before .if2 in
+    let if3 = c .before .before .before .before .if3 in
+    let padded = c .before .before .before .padded in
+    let k = chosen _ _ (the-size .ensures) (if2 .left) in
+    bad-padding _ _ _ _ (k .type) _ (names _ (k .type) (if1 .left) (k .coded)) (k .wide) (if3 .left) _
+    (sym (c .before .refusal .given .1) ∙ padded .ensures)
 
 pub unmarshal-fixed-spec : {M : Type 1} → statement M
 unmarshal-fixed-spec =
-    tie.close (tie.spec (λ c κs. search needs) returns (λ c. search needs) (λ c κs. search needs) (λ c κs. search needs) returns-2 (λ c κs. search needs) returns-3 padded-requires (λ c. search needs) bare-requires (λ c. search needs) returns-4 returns-5)
+    tie.close (tie.spec (λ c κs. search needs) returns (λ c. search needs) (λ c κs. search needs) (λ c κs. search needs) returns-2
+    (λ c κs. search needs) returns-3 padded-requires (λ c. search needs) bare-requires (λ c. search needs) returns-4 returns-5)

@@ -6,35 +6,14 @@ use borrow.Author.Needs.{needs}
 use Rattle.signature.proofs.begin.Statement.{statement}
 use Rattle.signature.proofs.begin.Tie as tie
 
-element-copy-out-here : tie.Need-element-copy-out-here
-element-copy-out-here c = search needs
-
 returns : tie.Need-returns
 returns c = λ k n b. begin-none b _ (inr (c .if1 .taken))
 
 returns-2 : tie.Need-returns-2
 returns-2 c = λ k n b. begin-none b _ (inl (c .if2 .taken))
 
-add-marks : tie.Need-add-marks
-add-marks c = search needs
-
-element-write-marks : tie.Need-element-write-marks
-element-write-marks c = search needs
-
-add-state : tie.Need-add-state
-add-state c = search needs
-
 returns-3 : tie.Need-returns-3
 returns-3 c = λ k n b. begin-one b _ (c .if2 .left) (c .before .if1 .left) (omega (arith, c .before .before .before .pre .room)) (omega arith)
 
 pub begin-spec : {M : Type 1} → statement M
-begin-spec =
-    tie.close
-    (tie.spec
-    element-copy-out-here
-    returns
-    returns-2
-    add-marks
-    element-write-marks
-    add-state
-    returns-3)
+begin-spec = tie.close (tie.spec (λ c. search needs) returns returns-2 (λ c. search needs) (λ c. search needs) (λ c. search needs) returns-3)

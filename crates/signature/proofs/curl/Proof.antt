@@ -7,12 +7,6 @@ use borrow.Author.Needs.{needs}
 use Rattle.signature.proofs.curl.Statement.{statement}
 use Rattle.signature.proofs.curl.Tie as tie
 
-element-copy-out-if1 : tie.Need-element-copy-out-if1
-element-copy-out-if1 c = search needs
-
-element-write-marks : tie.Need-element-write-marks
-element-write-marks c = search needs
-
 returns : tie.Need-returns
 returns c = λ k f. curl-array _ f (c .if1 .taken) (omega (arith, c .before .before .pre .room)) (omega arith)
 
@@ -26,6 +20,4 @@ returns-2 : tie.Need-returns-2
 returns-2 c = λ k f. rw (curl-loose k (not-mark (f .stands) (c .before .before .before .if1 .left))) (c .begin .ensures k (needKey loose k) (begins-dict f))
 
 pub curl-spec : {M : Type 1} → statement M
-curl-spec =
-    tie.close
-    (tie.spec element-copy-out-if1 element-write-marks returns add-state begin-requires returns-2)
+curl-spec = tie.close (tie.spec (λ c. search needs) (λ c. search needs) returns add-state begin-requires returns-2)

@@ -6,9 +6,6 @@ use borrow.Author.Needs.{needs}
 use Rattle.signature.proofs.is_key.Statement.{statement}
 use Rattle.signature.proofs.is_key.Tie as tie
 
-is-basic-requires : tie.Need-is-basic-requires
-is-basic-requires c κs = search needs
-
 returns : tie.Need-returns
 returns c = sym (key-bool _ (c .if1 .taken))
 
@@ -16,4 +13,4 @@ returns-2 : tie.Need-returns-2
 returns-2 c = c .is-basic .ensures ∙ key-basic (c .before .before .args .c) (omega arith) (c .before .if1 .left)
 
 pub is-key-spec : {M : Type 1} → statement M
-is-key-spec = tie.close (tie.spec is-basic-requires returns returns-2)
+is-key-spec = tie.close (tie.spec (λ c κs. search needs) returns returns-2)

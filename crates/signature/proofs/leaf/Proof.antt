@@ -7,14 +7,18 @@ use borrow.Author.Needs.{needs}
 use Rattle.signature.proofs.leaf.Statement.{statement}
 use Rattle.signature.proofs.leaf.Tie as tie
 
-shallow-requires : tie.Need-shallow-requires
-shallow-requires c κs = search needs
-
 put-requires : tie.Need-put-requires
-put-requires c κs = let r = c .before .before .before .pre in record { to = put (r .stack) variant; whole = record { stack = r .stack; type = variant; is = refl; takes = leaf-takes variant leaf-variant (r .follows) (c .before .before .shallow .ensures) }; room = r .room }
+put-requires c κs =
+    let r = c .before .before .before .pre in
+    record {
+      to = put (r .stack) variant;
+      whole = record
+          { stack = r .stack; type = variant; is = refl; takes = leaf-takes variant leaf-variant (r .follows) (c .before .before .shallow .ensures) };
+      room = r .room;
+    }
 
 returns : tie.Need-returns
 returns c = λ k t l f. c .put .ensures (put k t) (record { stack = k; type = t; is = refl; takes = leaf-takes t l f (c .before .before .before .shallow .ensures) })
 
 pub leaf-spec : {M : Type 1} → statement M
-leaf-spec = tie.close (tie.spec shallow-requires put-requires returns)
+leaf-spec = tie.close (tie.spec (λ c κs. search needs) put-requires returns)

@@ -20,54 +20,32 @@ abbrev μ-loop : tie.MeasureT-loop
 loop-holds : tie.Need-loop-holds Inv-loop μ-loop
 loop-holds c = starts _ _ refl refl
 
-shared-slice-read-advance : tie.Need-shared-slice-read-advance Inv-loop μ-loop
-shared-slice-read-advance c = search needs
-
 advance-requires : tie.Need-advance-requires Inv-loop μ-loop
-advance-requires c κs = let g = c .before .before .before .loop .inv in record { stack = g .stack; follows = g .follows; room = omega (arith, g .small, c .before .before .before .before .before .pre) }
-
-enum-known-next : tie.Need-enum-known-next Inv-loop μ-loop
-enum-known-next c = search needs
-
-enum-known-fault : tie.Need-enum-known-fault Inv-loop μ-loop
-enum-known-fault c = search needs
-
-refuse-requires : tie.Need-refuse-requires Inv-loop μ-loop
-refuse-requires c κs = search needs
+advance-requires c κs =
+    let asked = c .before .before .before .before .before .pre in
+    let the-loop = c .before .before .before .loop in
+    let g = the-loop .inv in
+    record { stack = g .stack; follows = g .follows; room = omega (arith, g .small, asked) }
 
 returns : tie.Need-returns Inv-loop μ-loop
-returns c = ap Refused (c .refuse .ensures) ∙ sym (ap (λ (x : Step). countedOf (finish x)) (goes-off (c .before .before .before .before .advance .last .0) (c .before .before .before .before .advance .result) (c .before .before .before .before .before .before .before .before .loop .inv) (c .before .before .before .before .before .before .before .loop-test .taken) (c .before .before .before .before .advance .ensures) _ (c .before .before .fault .given .1)))
-
-add-i : tie.Need-add-i Inv-loop μ-loop
-add-i c = search needs
-
-loop-less : tie.Need-loop-less Inv-loop μ-loop
-loop-less c = search needs
+returns c =
+    let the-loop = c .before .before .before .before .before .before .before .before .loop in
+    let loop-test = c .before .before .before .before .before .before .before .loop-test in
+    let advance = c .before .before .before .before .advance in
+    ap Refused (c .refuse .ensures) ∙ sym (ap (λ (x : Step). countedOf (finish x))
+    (goes-off (advance .last .0) (advance .result) (the-loop .inv) (loop-test .taken) (advance .ensures) _ (c .before .before .fault .given .1)))
 
 loop-again : tie.Need-loop-again Inv-loop μ-loop
-loop-again c = goes-on (c .before .before .before .advance .last .0) (c .before .before .before .advance .result) (c .before .before .before .before .before .before .before .loop .inv) (c .before .before .before .before .before .before .loop-test .taken) (c .before .before .before .advance .ensures) _ (c .before .next .given .1)
-
-finished-requires : tie.Need-finished-requires Inv-loop μ-loop
-finished-requires c κs = search needs
+loop-again c =
+    let the-loop = c .before .before .before .before .before .before .before .loop in
+    let loop-test = c .before .before .before .before .before .before .loop-test in
+    let advance = c .before .before .before .advance in
+    goes-on (advance .last .0) (advance .result) (the-loop .inv) (loop-test .taken) (advance .ensures) _ (c .before .next .given .1)
 
 returns-2 : tie.Need-returns-2 Inv-loop μ-loop
 returns-2 c = let g = c .before .before .loop .inv in c .finished .ensures (g .stack) _ (g .follows) ∙ sym (ap (λ (x : Step). countedOf (finish x)) (run-end g (c .before .loop-test .left)))
 
 pub parse-bytes-spec : {M : Type 1} → statement M
 parse-bytes-spec =
-    tie.close
-    (tie.spec
-    Inv-loop
-    μ-loop
-    loop-holds
-    shared-slice-read-advance
-    advance-requires
-    enum-known-next
-    enum-known-fault
-    refuse-requires
-    returns
-    add-i
-    loop-less
-    loop-again
-    finished-requires
-    returns-2)
+    tie.close (tie.spec Inv-loop μ-loop loop-holds (λ c. search needs) advance-requires (λ c. search needs) (λ c. search needs)
+    (λ c κs. search needs) returns (λ c. search needs) (λ c. search needs) loop-again (λ c κs. search needs) returns-2)

@@ -10,35 +10,15 @@ use borrow.Author.Needs.{needs}
 use Rattle.signature.proofs.parse_description.Statement.{statement}
 use Rattle.signature.proofs.parse_description.Tie as tie
 
-refuse-requires : tie.Need-refuse-requires
-refuse-requires c κs = search needs
-
 returns : tie.Need-returns
 returns c = ap Refused (c .refuse .ensures) ∙ sym (too-long (c .before .before .before .args .sig .now) (c .before .if1 .taken))
 
-shared-slice-read-parse-byte : tie.Need-shared-slice-read-parse-byte
-shared-slice-read-parse-byte c = search needs
-
-parse-byte-requires : tie.Need-parse-byte-requires
-parse-byte-requires c κs = search needs
-
 returns-2 : tie.Need-returns-2
 returns-2 c = c .parse-byte .ensures ∙ ap (λ (s : List ℕ). countedOf (parse s)) (sym (the-byte (c .before .before .before .before .before .args .sig .now) (c .before .before .if2 .taken)))
-
-parse-bytes-requires : tie.Need-parse-bytes-requires
-parse-bytes-requires c κs = search needs
 
 returns-3 : tie.Need-returns-3
 returns-3 c = c .parse-bytes .ensures ∙ ap countedOf (sym (not-long (c .before .before .before .before .args .sig .now) (c .before .before .if1 .left)))
 
 pub parse-description-spec : {M : Type 1} → statement M
 parse-description-spec =
-    tie.close
-    (tie.spec
-    refuse-requires
-    returns
-    shared-slice-read-parse-byte
-    parse-byte-requires
-    returns-2
-    parse-bytes-requires
-    returns-3)
+    tie.close (tie.spec (λ c κs. search needs) returns (λ c. search needs) (λ c κs. search needs) returns-2 (λ c κs. search needs) returns-3)

@@ -45,7 +45,10 @@ element-write-marks : tie.Need-element-write-marks Inv-loop μ-loop
 element-write-marks c = omega (arith, c .before .before .before .before .before .before .pre .room)
 
 returns-2 : tie.Need-returns-2 Inv-loop μ-loop
-returns-2 c = λ x w. put-empty _ (c .before .before .before .before .before .loop .inv .1 x w) (c .if3 .taken) (omega (arith, c .before .before .before .before .before .before .pre .room)) (omega arith)
+returns-2 c =
+    let asked = c .before .before .before .before .before .before .pre in
+    let the-loop = c .before .before .before .before .before .loop in
+    λ x w. put-empty _ (the-loop .inv .1 x w) (c .if3 .taken) (omega (arith, asked .room)) (omega arith)
 
 returns-3 : tie.Need-returns-3 Inv-loop μ-loop
 returns-3 c = λ x w. put-fields _ (c .before .before .before .before .before .before .loop .inv .1 x w) (c .if4 .taken) (omega arith)
@@ -54,29 +57,19 @@ element-write-marks-2 : tie.Need-element-write-marks-2 Inv-loop μ-loop
 element-write-marks-2 c = omega (arith, c .before .before .before .before .before .before .before .before .pre .room)
 
 returns-4 : tie.Need-returns-4 Inv-loop μ-loop
-returns-4 c = λ x w. put-value _ (c .before .before .before .before .before .before .before .loop .inv .1 x w) (c .if5 .taken) (omega (arith, c .before .before .before .before .before .before .before .before .pre .room)) (omega arith)
+returns-4 c =
+    let asked = c .before .before .before .before .before .before .before .before .pre in
+    let the-loop = c .before .before .before .before .before .before .before .loop in
+    λ x w. put-value _ (the-loop .inv .1 x w) (c .if5 .taken) (omega (arith, asked .room)) (omega arith)
 
 returns-5 : tie.Need-returns-5 Inv-loop μ-loop
-returns-5 c = λ x w. put-none _ (c .before .before .before .before .before .before .before .loop .inv .1 x w) (c .before .before .before .if2 .left) (c .before .before .if3 .left) (c .before .if4 .left) (c .if5 .left) (c .before .before .before .before .before .if1 .left)
+returns-5 c =
+    let the-loop = c .before .before .before .before .before .before .before .loop in
+    let if1 = c .before .before .before .before .before .if1 in
+    let if2 = c .before .before .before .if2 in
+    λ x w. put-none _ (the-loop .inv .1 x w) (if2 .left) (c .before .before .if3 .left) (c .before .if4 .left) (c .if5 .left) (if1 .left)
 
 pub put-spec : {M : Type 1} → statement M
 put-spec =
-    tie.close
-    (tie.spec
-    Inv-loop
-    μ-loop
-    loop-holds
-    element-copy-out-if1
-    sub-top
-    sub-arrays
-    loop-less
-    loop-again
-    element-copy-out-mark
-    add-state
-    returns
-    element-write-marks
-    returns-2
-    returns-3
-    element-write-marks-2
-    returns-4
-    returns-5)
+    tie.close (tie.spec Inv-loop μ-loop loop-holds element-copy-out-if1 sub-top sub-arrays loop-less loop-again element-copy-out-mark add-state
+    returns element-write-marks returns-2 returns-3 element-write-marks-2 returns-4 returns-5)

@@ -3,10 +3,5 @@ use borrow.Author.Needs.{needs}
 use Rattle.signature.proofs.shallow.Statement.{statement}
 use Rattle.signature.proofs.shallow.Tie as tie
 
-returns : tie.Need-returns
-returns c = search needs
-
 pub shallow-spec : {M : Type 1} → statement M
-shallow-spec =
-    tie.close
-    (tie.spec returns)
+shallow-spec = tie.close (tie.spec (λ c. search needs))

@@ -33,59 +33,78 @@ loop-less : tie.Need-loop-less Inv-loop μ-loop Inv-loop2 μ-loop2
 loop-less c = omega (arith, first-within (c .before .before .before .before .pre) (c .before .before .loop .i) (c .before .before .loop .inv))
 
 loop-again : tie.Need-loop-again Inv-loop μ-loop Inv-loop2 μ-loop2
-loop-again c = sym (end-array (c .before .before .before .before .args .sig .now) (c .before .before .loop .i) (first-within (c .before .before .before .before .pre) (c .before .before .loop .i) (c .before .before .loop .inv)) (c .if1 .taken)) ∙ c .before .before .loop .inv
+loop-again c =
+    let start = c .before .before .before .before in
+    let loop = c .before .before .loop in
+    sym (end-array (start .args .sig .now) (loop .i) (first-within (start .pre) (loop .i) (loop .inv)) (c .if1 .taken)) ∙ loop .inv
 
 shared-slice-read-bracket : tie.Need-shared-slice-read-bracket Inv-loop μ-loop Inv-loop2 μ-loop2
 shared-slice-read-bracket c = first-within (c .before .before .before .before .before .pre) (c .before .before .before .loop .i) (c .before .before .before .loop .inv)
-
-bracket-requires : tie.Need-bracket-requires Inv-loop μ-loop Inv-loop2 μ-loop2
-bracket-requires c κs = search needs
 
 add-i-2 : tie.Need-add-i-2 Inv-loop μ-loop Inv-loop2 μ-loop2
 add-i-2 c = omega (arith, first-within (c .before .before .before .before .before .before .pre) (c .before .before .before .before .loop .i) (c .before .before .before .before .loop .inv))
 
 loop2-holds : tie.Need-loop2-holds Inv-loop μ-loop Inv-loop2 μ-loop2
-loop2-holds c = let b = c .bracket .ensures in (omega (arith, b, bracket-one (getD (c .before .before .before .before .before .before .args .sig .now) (c .before .before .before .before .loop .i) 0) 0), rw b (sym (end-first (c .before .before .before .before .before .before .args .sig .now) (c .before .before .before .before .loop .i) (first-within (c .before .before .before .before .before .before .pre) (c .before .before .before .before .loop .i) (c .before .before .before .before .loop .inv)) (c .before .before .if1 .left)) ∙ c .before .before .before .before .loop .inv))
+loop2-holds c =
+    let start = c .before .before .before .before .before .before in
+    let loop = c .before .before .before .before .loop in
+    let b = c .bracket .ensures in (
+      omega (arith, b, bracket-one (getD (start .args .sig .now) (loop .i) 0) 0),
+      rw b
+          (sym (end-first (start .args .sig .now) (loop .i) (first-within (start .pre) (loop .i) (loop .inv)) (c .before .before .if1 .left)) ∙ loop .inv),
+    )
 
 shared-slice-read-bracket-2 :
     tie.Need-shared-slice-read-bracket-2 Inv-loop μ-loop Inv-loop2 μ-loop2
-shared-slice-read-bracket-2 c = next-within (c .before .before .before .before .before .before .before .before .before .pre) (c .before .before .loop2 .i) (c .before .before .loop2 .depth) (c .before .loop2-test .taken) (c .before .before .loop2 .inv .1)
+shared-slice-read-bracket-2 c =
+    let asked = c .before .before .before .before .before .before .before .before .before .pre in
+    let loop2 = c .before .before .loop2 in
+    next-within asked (loop2 .i) (loop2 .depth) (c .before .loop2-test .taken) (loop2 .inv .1)
 
 bracket-requires-2 : tie.Need-bracket-requires-2 Inv-loop μ-loop Inv-loop2 μ-loop2
-bracket-requires-2 c κs = omega (arith, c .before .before .loop2 .inv .0, next-within (c .before .before .before .before .before .before .before .before .before .pre) (c .before .before .loop2 .i) (c .before .before .loop2 .depth) (c .before .loop2-test .taken) (c .before .before .loop2 .inv .1), c .before .before .before .before .before .before .before .before .before .good .0 .1)
+bracket-requires-2 c κs =
+    let asked = c .before .before .before .before .before .before .before .before .before .pre in
+    let good = c .before .before .before .before .before .before .before .before .before .good in
+    let loop2 = c .before .before .loop2 in
+    omega (arith, loop2 .inv .0, next-within asked (loop2 .i) (loop2 .depth) (c .before .loop2-test .taken) (loop2 .inv .1), good .0 .1)
 
 add-i-3 : tie.Need-add-i-3 Inv-loop μ-loop Inv-loop2 μ-loop2
-add-i-3 c = omega (arith, next-within (c .before .before .before .before .before .before .before .before .before .before .pre) (c .before .before .before .loop2 .i) (c .before .before .before .loop2 .depth) (c .before .before .loop2-test .taken) (c .before .before .before .loop2 .inv .1))
+add-i-3 c =
+    let asked = c .before .before .before .before .before .before .before .before .before .before .pre in
+    let loop2 = c .before .before .before .loop2 in
+    omega (arith, next-within asked (loop2 .i) (loop2 .depth) (c .before .before .loop2-test .taken) (loop2 .inv .1))
 
 loop2-less : tie.Need-loop2-less Inv-loop μ-loop Inv-loop2 μ-loop2
-loop2-less c = omega (arith, next-within (c .before .before .before .before .before .before .before .before .before .before .pre) (c .before .before .before .loop2 .i) (c .before .before .before .loop2 .depth) (c .before .before .loop2-test .taken) (c .before .before .before .loop2 .inv .1))
+loop2-less c =
+    let asked = c .before .before .before .before .before .before .before .before .before .before .pre in
+    let loop2 = c .before .before .before .loop2 in
+    omega (arith, next-within asked (loop2 .i) (loop2 .depth) (c .before .before .loop2-test .taken) (loop2 .inv .1))
 
 loop2-again : tie.Need-loop2-again Inv-loop μ-loop Inv-loop2 μ-loop2
-loop2-again c = let b = c .bracket2 .ensures in (omega (arith, b, c .before .before .before .loop2 .inv .0, bracket-one (getD (c .before .before .before .before .before .before .before .before .before .before .args .sig .now) (c .before .before .before .loop2 .i) 0) (c .before .before .before .loop2 .depth)), rw b (sym (end-next (c .before .before .before .before .before .before .before .before .before .before .args .sig .now) (c .before .before .before .loop2 .i) (c .before .before .before .loop2 .depth) (next-within (c .before .before .before .before .before .before .before .before .before .before .pre) (c .before .before .before .loop2 .i) (c .before .before .before .loop2 .depth) (c .before .before .loop2-test .taken) (c .before .before .before .loop2 .inv .1)) (c .before .before .loop2-test .taken)) ∙ c .before .before .before .loop2 .inv .1))
+loop2-again c =
+    let start = c .before .before .before .before .before .before .before .before .before .before in
+    let loop2 = c .before .before .before .loop2 in
+    let loop2-test = c .before .before .loop2-test in
+    let b = c .bracket2 .ensures in (
+      omega (arith, b, loop2 .inv .0, bracket-one (getD (start .args .sig .now) (loop2 .i) 0) (loop2 .depth)),
+      rw b
+          (sym (end-next (start .args .sig .now) (loop2 .i) (loop2 .depth)
+          (next-within (start .pre) (loop2 .i) (loop2 .depth) (loop2-test .taken) (loop2 .inv .1)) (loop2-test .taken)) ∙ loop2 .inv .1),
+    )
 
 returns : tie.Need-returns Inv-loop μ-loop Inv-loop2 μ-loop2
-returns c = λ t e h. omega (arith, c .before .loop2 .inv .1, stopped (c .before .loop2 .depth) (scan (drop (c .before .loop2 .i) (c .before .before .before .before .before .before .before .before .args .sig .now)) (c .before .loop2 .depth)) (c .loop2-test .left), ends-at h)
+returns c =
+    let args = c .before .before .before .before .before .before .before .before .args in
+    let loop2 = c .before .loop2 in
+    λ t e h. omega (
+      arith,
+      loop2 .inv .1,
+      stopped (loop2 .depth) (scan (drop (loop2 .i) (args .sig .now)) (loop2 .depth))
+          (c .loop2-test .left),
+      ends-at h,
+    )
 
 pub skip-spec : {M : Type 1} → statement M
 skip-spec =
-    tie.close
-    (tie.spec
-    Inv-loop
-    μ-loop
-    Inv-loop2
-    μ-loop2
-    loop-holds
-    shared-slice-read-if1
-    add-i
-    loop-less
-    loop-again
-    shared-slice-read-bracket
-    bracket-requires
-    add-i-2
-    loop2-holds
-    shared-slice-read-bracket-2
-    bracket-requires-2
-    add-i-3
-    loop2-less
-    loop2-again
-    returns)
+    tie.close (tie.spec Inv-loop μ-loop Inv-loop2 μ-loop2 loop-holds shared-slice-read-if1 add-i loop-less loop-again shared-slice-read-bracket
+    (λ c κs. search needs) add-i-2 loop2-holds shared-slice-read-bracket-2 bracket-requires-2 add-i-3 loop2-less loop2-again returns)

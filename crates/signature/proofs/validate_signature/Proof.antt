@@ -6,18 +6,11 @@ use borrow.Author.Needs.{needs}
 use Rattle.signature.proofs.validate_signature.Statement.{statement}
 use Rattle.signature.proofs.validate_signature.Tie as tie
 
-refuse-requires : tie.Need-refuse-requires
-refuse-requires c κs = search needs
-
 returns : tie.Need-returns
 returns c = ap Refused (c .refuse .ensures) ∙ sym (check-empty (c .before .before .before .args .sig .now) (c .before .if1 .taken))
-
-parse-description-requires : tie.Need-parse-description-requires
-parse-description-requires c κs = search needs
 
 returns-2 : tie.Need-returns-2
 returns-2 c = c .parse-description .ensures ∙ sym (check-some (c .before .before .before .args .sig .now) (c .before .if1 .left))
 
 pub validate-signature-spec : {M : Type 1} → statement M
-validate-signature-spec =
-    tie.close (tie.spec refuse-requires returns parse-description-requires returns-2)
+validate-signature-spec = tie.close (tie.spec (λ c κs. search needs) returns (λ c κs. search needs) returns-2)

@@ -7,6 +7,4 @@ returns : tie.Need-returns
 returns c = refl
 
 pub accepted-spec : {M : Type 1} → statement M
-accepted-spec =
-    tie.close
-    (tie.spec returns)
+accepted-spec = tie.close (tie.spec returns)

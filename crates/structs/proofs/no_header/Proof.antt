@@ -20,6 +20,4 @@ returns : tie.Need-returns
 returns c = made (c .before .before .refused .ensures) (c .of-fields .ensures ∙ ap fieldsOf (c .before .no-fields .ensures))
 
 pub no-header-spec : {M : Type 1} → statement M
-no-header-spec =
-    tie.close
-    (tie.spec (λ c. search needs) (λ c. search needs) (λ c. search needs) returns)
+no-header-spec = tie.close (tie.spec (λ c. search needs) (λ c. search needs) (λ c. search needs) returns)

@@ -15,6 +15,4 @@ returns-3 : tie.Need-returns-3
 returns-3 c = sym (ap entryOf (c .before .entry2 .given .1))
 
 pub of-entry-spec : {M : Type 1} → statement M
-of-entry-spec =
-    tie.close
-    (tie.spec (λ c. search needs) (λ c. search needs) (λ c. search needs) (λ c. search needs) returns returns-2 returns-3)
+of-entry-spec = tie.close (tie.spec (λ c. search needs) (λ c. search needs) (λ c. search needs) (λ c. search needs) returns returns-2 returns-3)

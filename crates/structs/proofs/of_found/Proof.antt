@@ -16,6 +16,4 @@ returns-3 : tie.Need-returns-3
 returns-3 c = sym (ap (λ (e : Entry). partOf e (c .before .before .args .fallback)) (c .enum-told2 .given .1))
 
 pub of-found-spec : {M : Type 1} → statement M
-of-found-spec =
-    tie.close
-    (tie.spec (λ c. search needs) (λ c. search needs) (λ c. search needs) returns returns-2 returns-3)
+of-found-spec = tie.close (tie.spec (λ c. search needs) (λ c. search needs) (λ c. search needs) returns returns-2 returns-3)

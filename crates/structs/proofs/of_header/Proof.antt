@@ -17,9 +17,10 @@ made : (h : Header) → {a a2 : MtAnswer} {b b2 : Bool} {k k2 : ℕ} {f f2 : MtF
 made h e1 e2 e3 e4 = rw (e1, e2, e3, e4) refl
 
 returns : tie.Need-returns
-returns c = made (c .before .before .before .before .before .before .before .before .args .header) (c .before .before .before .accepted .ensures) (c .before .before .is-big .ensures) (c .before .of-kind .ensures) (c .of-fields .ensures)
+returns c =
+    let args = c .before .before .before .before .before .before .before .before .args in
+    let accepted = c .before .before .before .accepted in
+    made (args .header) (accepted .ensures) (c .before .before .is-big .ensures) (c .before .of-kind .ensures) (c .of-fields .ensures)
 
 pub of-header-spec : {M : Type 1} → statement M
-of-header-spec =
-    tie.close
-    (tie.spec (λ c. search needs) (λ c. search needs) (λ c. search needs) (λ c. search needs) returns)
+of-header-spec = tie.close (tie.spec (λ c. search needs) (λ c. search needs) (λ c. search needs) (λ c. search needs) returns)

@@ -12,6 +12,4 @@ returns-2 : tie.Need-returns-2
 returns-2 c = c .no-header .ensures ∙ sym (ap readOf (c .before .before .read2 .given .1))
 
 pub of-read-spec : {M : Type 1} → statement M
-of-read-spec =
-    tie.close
-    (tie.spec (λ c. search needs) (λ c. search needs) (λ c. search needs) (λ c. search needs) returns returns-2)
+of-read-spec = tie.close (tie.spec (λ c. search needs) (λ c. search needs) (λ c. search needs) (λ c. search needs) returns returns-2)

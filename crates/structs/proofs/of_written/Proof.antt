@@ -16,6 +16,4 @@ returns-2 : tie.Need-returns-2
 returns-2 c = c .refused .ensures ∙ sym (ap (writtenOf (c .before .before .before .before .args .from)) (c .before .before .written2 .given .1))
 
 pub of-written-spec : {M : Type 1} → statement M
-of-written-spec =
-    tie.close
-    (tie.spec (λ c. search needs) sub-accepted (λ c. search needs) (λ c. search needs) (λ c. search needs) returns returns-2)
+of-written-spec = tie.close (tie.spec (λ c. search needs) sub-accepted (λ c. search needs) (λ c. search needs) (λ c. search needs) returns returns-2)

@@ -11,6 +11,4 @@ returns-2 : tie.Need-returns-2
 returns-2 c = sym (ap orderOf (c .if1 .left))
 
 pub order-spec : {M : Type 1} → statement M
-order-spec =
-    tie.close
-    (tie.spec returns returns-2)
+order-spec = tie.close (tie.spec returns returns-2)

@@ -10,6 +10,4 @@ returns : tie.Need-returns
 returns c = ap (λ (n : ℕ). record { number = n; position = c .before .before .args .refusal .place .0; length = 0 }) (c .number .ensures)
 
 pub refused-spec : {M : Type 1} → statement M
-refused-spec =
-    tie.close
-    (tie.spec (λ c. search needs) (λ c. search needs) returns)
+refused-spec = tie.close (tie.spec (λ c. search needs) (λ c. search needs) returns)

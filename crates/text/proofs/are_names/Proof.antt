@@ -29,11 +29,20 @@ array-read-class c = omega (arith, c .shared-slice-known .given (c .before .befo
 
 returns : tie.Need-returns Inv-loop μ-loop
 unfolding classes
-returns c = sym (other-stop _ _ (c .before .before .before .loop-test .taken) _ _ (c .before .before .before .before .loop .inv .1) _ (said _ (omega (arith, c .before .before .shared-slice-known .given (c .before .before .before .before .loop .i)))) (c .before .if1 .left) (c .if2 .taken))
+returns c =
+    let loop = c .before .before .before .before .loop in
+    let loop-test = c .before .before .before .loop-test in
+    sym (other-stop _ _ (loop-test .taken) _ _ (loop .inv .1) _ (said _ (omega (arith, c .before .before .shared-slice-known .given (loop .i))))
+    (c .before .if1 .left) (c .if2 .taken))
 
 returns-2 : tie.Need-returns-2 Inv-loop μ-loop
 unfolding classes
-returns-2 c = sym (slash-twice _ _ (c .before .before .before .before .loop-test .taken) _ _ (c .before .before .before .before .before .loop .inv .1) _ (said _ (omega (arith, c .before .before .before .shared-slice-known .given (c .before .before .before .before .before .loop .i)))) (c .before .if2 .left) (c .if3 .taken))
+returns-2 c =
+    let loop = c .before .before .before .before .before .loop in
+    let loop-test = c .before .before .before .before .loop-test in
+    let shared-slice-known = c .before .before .before .shared-slice-known in
+    sym (slash-twice _ _ (loop-test .taken) _ _ (loop .inv .1) _ (said _ (omega (arith, shared-slice-known .given (loop .i)))) (c .before .if2 .left)
+    (c .if3 .taken))
 
 loop-again : tie.Need-loop-again Inv-loop μ-loop
 unfolding classes
@@ -52,4 +61,5 @@ returns-3 c = sym (c .before .loop .inv .1 ∙ names-end _ _ _ (c .loop-test .le
 
 pub are-names-spec : {M : Type 1} → statement M
 are-names-spec =
-    tie.close (tie.spec Inv-loop μ-loop loop-holds (λ c. omega arith) cast-class array-read-class returns returns-2 (λ c. omega arith) (λ c. omega arith) loop-again returns-3)
+    tie.close (tie.spec Inv-loop μ-loop loop-holds (λ c. omega arith) cast-class array-read-class returns returns-2 (λ c. omega arith)
+    (λ c. omega arith) loop-again returns-3)

@@ -19,5 +19,4 @@ returns-4 : tie.Need-returns-4
 returns-4 c = λ cs. c .asks .ensures cs ∙ inside _ _ _ _ cs (c .before .before .before .before .before .if1 .left) (c .before .before .before .if2 .left) (c .before .if3 .left)
 
 pub one-more-spec : {M : Type 1} → statement M
-one-more-spec =
-    tie.close (tie.spec (λ c κs. search needs) returns returns-2 returns-3 (λ c. search needs) (λ c κs. search needs) returns-4)
+one-more-spec = tie.close (tie.spec (λ c κs. search needs) returns returns-2 returns-3 (λ c. search needs) (λ c κs. search needs) returns-4)

@@ -34,16 +34,26 @@ unfolding classes
 one-more-requires c κs = rule _ (omega (arith, c .shared-slice-known2 .given (c .before .before .loop .i)))
 
 returns : tie.Need-returns Inv-loop μ-loop
-returns c = not-utf8 _ (scan-stop _ _ (c .before .before .before .before .loop-test .taken) _ _ _ (c .before .before .before .before .before .loop .inv .1) (c .before .before .one-more .ensures) (c .enum-told .given .1))
+returns c =
+    let loop = c .before .before .before .before .before .loop in
+    let loop-test = c .before .before .before .before .loop-test in
+    not-utf8 _ (scan-stop _ _ (loop-test .taken) _ _ _ (loop .inv .1) (c .before .before .one-more .ensures) (c .enum-told .given .1))
 
 loop-again : tie.Need-loop-again Inv-loop μ-loop
 unfolding classes
 loop-again c =
-    let s : List ℕ = c .before .before .before .before .before .before .before .before .args .s .now in
-    let i : ℕ = c .before .before .before .before .before .before .loop .i in (
+    let a = c .before .before .before .before .before .before .before .before .args in
+    let loop = c .before .before .before .before .before .before .loop in
+    let loop-test = c .before .before .before .before .before .loop-test in
+    let shared-slice-known2 = c .before .before .before .before .shared-slice-known2 in
+    let one-more = c .before .before .before .one-more in
+    let s : List ℕ = a .s .now in
+    let i : ℕ = loop .i in (
       omega arith,
-      scan-on _ _ (c .before .before .before .before .before .loop-test .taken) _ _ _ _ (c .before .before .before .before .before .before .loop .inv .1) (c .before .before .before .one-more .ensures) (c .before .next .given .1),
-      zero-on s i (c .before .before .before .before .before .loop-test .taken) _ (c .before .before .before .before .before .before .loop .zero) (getD classes (getD s i 0) 0) (c .before .before .before .before .before .before .loop .inv .2) (said (getD s i 0) (omega (arith, c .before .before .before .before .shared-slice-known2 .given (c .before .before .before .before .before .before .loop .i))) .zero),
+      scan-on _ _ (loop-test .taken) _ _ _ _ (loop .inv .1) (one-more .ensures) (c .before .next .given .1),
+      zero-on s i
+          (loop-test .taken) _ (loop .zero) (getD classes (getD s i 0) 0) (loop .inv .2)
+          (said (getD s i 0) (omega (arith, shared-slice-known2 .given (loop .i))) .zero),
     )
 
 returns-2 : tie.Need-returns-2 Inv-loop μ-loop
@@ -51,14 +61,21 @@ returns-2 c = not-utf8 _ (c .before .before .loop .inv .1 ∙ scan-end _ _ _ _ _
 
 returns-3 : tie.Need-returns-3 Inv-loop μ-loop
 returns-3 c =
+    let loop = c .before .before .before .loop in
+    let ended = c .before .before .loop-test .left in
     let s : List ℕ = c .before .before .before .before .before .args .s .now in
-    has-zero _ (c .before .before .before .loop .inv .1 ∙ scan-end s _ _ _ _ (c .before .before .loop-test .left) ∙ eq-eqb _ _ (c .before .if1 .left)) (c .before .before .before .loop .inv .2 ∙ zero-end s _ (c .before .before .before .loop .zero) (c .before .before .loop-test .left) ∙ ap not (c .if2 .taken))
+    has-zero _ (loop .inv .1 ∙ scan-end s _ _ _ _ ended ∙ eq-eqb _ _ (c .before .if1 .left))
+    (loop .inv .2 ∙ zero-end s _ (loop .zero) ended ∙ ap not (c .if2 .taken))
 
 returns-4 : tie.Need-returns-4 Inv-loop μ-loop
 returns-4 c =
+    let loop = c .before .before .before .loop in
+    let ended = c .before .before .loop-test .left in
     let s : List ℕ = c .before .before .before .before .before .args .s .now in
-    fine _ (c .before .before .before .loop .inv .1 ∙ scan-end s _ _ _ _ (c .before .before .loop-test .left) ∙ eq-eqb _ _ (c .before .if1 .left)) (c .before .before .before .loop .inv .2 ∙ zero-end s _ (c .before .before .before .loop .zero) (c .before .before .loop-test .left) ∙ ap not (c .if2 .left))
+    fine _ (loop .inv .1 ∙ scan-end s _ _ _ _ ended ∙ eq-eqb _ _ (c .before .if1 .left))
+    (loop .inv .2 ∙ zero-end s _ (loop .zero) ended ∙ ap not (c .if2 .left))
 
 pub walk-spec : {M : Type 1} → statement M
 walk-spec =
-    tie.close (tie.spec Inv-loop μ-loop loop-holds (λ c. omega arith) cast-class array-read-class one-more-requires (λ c. search needs) (λ c. search needs) returns (λ c. omega arith) (λ c. omega arith) loop-again returns-2 returns-3 returns-4)
+    tie.close (tie.spec Inv-loop μ-loop loop-holds (λ c. omega arith) cast-class array-read-class one-more-requires (λ c. search needs)
+    (λ c. search needs) returns (λ c. omega arith) (λ c. omega arith) loop-again returns-2 returns-3 returns-4)

@@ -18,7 +18,9 @@ abbrev μ-loop : tie.MeasureT-loop
 
 loop-holds : tie.Need-loop-holds Inv-loop μ-loop
 loop-holds c =
-    let f : c .before .before .args .at + 2 * 0 ≡ c .before .before .args .at = omega arith in rw f (omega arith, refl, refl)
+    let a = c .before .before .args in
+    let f : a .at + 2 * 0 ≡ a .at = omega arith in
+    rw f (omega arith, refl, refl)
 
 glyph-requires : tie.Need-glyph-requires Inv-loop μ-loop
 glyph-requires c κs =
@@ -30,19 +32,22 @@ slice-write-out-2 c =
 
 loop-again : tie.Need-loop-again Inv-loop μ-loop
 loop-again c =
-    let a = c .before .before .before .before .before .before .before .args in let l = c .before .before .before .before .loop in
-    (omega arith, simp length-set (l .inv .1), rw (c .before .glyph .ensures, c .glyph2 .ensures) (text-turn (l .out) _ (a .s .now) (a .at) (l .i) (omega arith) (l .inv .2)))
-
-same-length : tie.Need-same-length Inv-loop μ-loop
-same-length c = c .before .loop .inv .1
+    let p = c .before .before .before .before in
+    let l = p .loop in
+    let a = p .before .before .before .args in
+    let t = text-turn (l .out) _ (a .s .now) (a .at) (l .i) (omega arith) (l .inv .2) in
+    (omega arith, simp length-set (l .inv .1), rw (c .before .glyph .ensures, c .glyph2 .ensures) t)
 
 returns : tie.Need-returns Inv-loop μ-loop
 unfolding hexText
 returns c =
-    let a = c .before .before .before .before .args in let l = c .before .loop in
+    let a = c .before .before .before .before .args in
+    let l = c .before .loop in
     rw (drop-of-length-le (a .s .now) {i = l .i} (omega arith)) at (l .inv .2)
 
 pub pair-spec : {M : Type 1} → statement M
 pair-spec =
     tie.close
-    (tie.spec Inv-loop μ-loop loop-holds (λ c. search needs) glyph-requires (λ c. search needs) (λ c. search needs) (λ c. search needs) (λ c κs. search needs) (λ c. search needs) (λ c. search needs) (λ c. search needs) slice-write-out-2 (λ c. search needs) (λ c. search needs) loop-again same-length returns)
+    (tie.spec Inv-loop μ-loop loop-holds (λ c. search needs) glyph-requires (λ c. search needs) (λ c. search needs) (λ c. search needs)
+    (λ c κs. search needs) (λ c. search needs) (λ c. search needs) (λ c. search needs) slice-write-out-2 (λ c. search needs) (λ c. search needs)
+    loop-again (λ c. c .before .loop .inv .1) returns)

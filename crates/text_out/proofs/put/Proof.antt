@@ -8,15 +8,14 @@ use Rattle.text_out.proofs.put.Tie as tie
 
 returns : tie.Need-returns
 returns c =
-    let a = c .before .before .before .before .before .before .before .before .args in fitting (a .out .now) (a .s .now) _ (a .at) _ (omega arith) refl (c .before .before .copy .ensures)
+    let a = c .before .before .before .before .before .before .before .before .args in
+    fitting (a .out .now) (a .s .now) _ (a .at) _ (omega arith) refl (c .before .before .copy .ensures)
 
 returns-2 : tie.Need-returns-2
-returns-2 c =
-    let a = c .before .before .before .before .args in left-out (a .out .now) (a .s .now) (a .at) (omega arith)
+returns-2 c = let a = c .before .before .before .before .args in left-out (a .out .now) (a .s .now) (a .at) (omega arith)
 
 returns-3 : tie.Need-returns-3
-returns-3 c =
-    let a = c .before .before .before .args in left-out (a .out .now) (a .s .now) (a .at) (omega arith)
+returns-3 c = let a = c .before .before .before .args in left-out (a .out .now) (a .s .now) (a .at) (omega arith)
 
 pub put-spec : {M : Type 1} → statement M
 put-spec =

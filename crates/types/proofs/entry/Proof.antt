@@ -10,12 +10,6 @@ returns : tie.Need-returns
 unfolding tableAt
 returns c = rw (lt-ltb _ _ (c .if1 .taken)) at (rule (c .before .args .code) (omega arith))
 
-cast-i : tie.Need-cast-i
-cast-i c = search needs
-
-array-read-result : tie.Need-array-read-result
-array-read-result c = search needs
-
 returns-2 : tie.Need-returns-2
 unfolding tableAt entries
 returns-2 c = rw (le-ltb _ _ (c .before .if1 .left), lt-ltb _ _ (c .if2 .taken)) at (rule (c .before .before .args .code) (omega arith))
@@ -25,4 +19,4 @@ unfolding tableAt
 returns-3 c = rw (le-ltb _ _ (c .before .if1 .left), le-ltb _ _ (c .if2 .left)) at (rule (c .before .before .args .code) (omega arith))
 
 pub entry-spec : {M : Type 1} → statement M
-entry-spec = tie.close (tie.spec returns cast-i array-read-result returns-2 returns-3)
+entry-spec = tie.close (tie.spec returns (λ c. search needs) (λ c. search needs) returns-2 returns-3)

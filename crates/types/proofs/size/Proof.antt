@@ -5,14 +5,8 @@ use Rattle.types.proofs.Rule.{size-small}
 use Rattle.types.proofs.size.Statement.{statement}
 use Rattle.types.proofs.size.Tie as tie
 
-entry-requires : tie.Need-entry-requires
-entry-requires c κs = search needs
-
-cast-result : tie.Need-cast-result
-cast-result c = search needs
-
 returns : tie.Need-returns
 returns c = omega (arith, c .entry .ensures, size-small (c .before .args .code) (omega arith))
 
 pub size-spec : {M : Type 1} → statement M
-size-spec = tie.close (tie.spec entry-requires cast-result returns)
+size-spec = tie.close (tie.spec (λ c κs. search needs) (λ c. search needs) returns)

@@ -24,8 +24,9 @@ use Rattle.meaning.proofs.ValueLocal.{readTop-local}
 use Rattle.meaning.proofs.SignatureLaws.{parse-sound}
 use Rattle.meaning.proofs.Booleans.{and-left, and-right, and-both}
 use Rattle.meaning.proofs.PlaceLaws.{lies, spelled-split}
+use Rattle.validate_raw.specs.declared.walk.Spot.{Spot}
 use Rattle.validate_raw.specs.declared.walk.Walked.{Walked}
-use Rattle.validate_raw.specs.declared.walk.Walked.the-variants.{Past, Refused as Stopped}
+use Rattle.validate_raw.specs.declared.walk.Walked.the-variants as walked
 use Rattle.validate_raw.specs.Walk.{walkedOf}
 use Rattle.validate_raw.proofs.walk.WalkLaws.{past-inv, stopped-inv, pair-fault, kept}
 use Rattle.unmarshal.specs.Body.{Types, TypesAt}
@@ -121,13 +122,15 @@ module _ (o : Order) (s b : List ℕ) (off : ℕ) where
       same-next ts q = h .same ts q ∙ ap (λ (us : List Ty). reachedOf (bodyR o us b at)) (next .is)
 
       module _ (q : Walked) (walks : (t : Ty) (e : ℕ) → TypeAt t s i e → q ≡ walkedOf e (read o (readVar o 16) t b at)) where
-        walked : q ≡ walkedOf (next .middle) (readTop o (next .first) b at)
+        answered : q ≡ walkedOf (next .middle) (readTop o (next .first) b at)
         unfolding readTop
-        walked = walks (next .first) (next .middle) (next .here)
+        answered = walks (next .first) (next .middle) (next .here)
 
-        pub left-past : (n p : ℕ) → at ≤ length b → q ≡ Past n p → (i < n) × (n ≤ length s) × (at ≤ p) × (p ≤ length b) × Left o s b off n p
-        left-past n p k e =
-            let j = past-inv (next .middle) n p (readTop o (next .first) b at) (sym walked ∙ e) in
+        pub left-past : (x : Spot) → at ≤ length b → q ≡ walked.Past x
+            → (i < x .sig .0) × (x .sig .0 ≤ length s) × (at ≤ x .buf .0) × (x .buf .0 ≤ length b) × Left o s b off (x .sig .0) (x .buf .0)
+        left-past x k e =
+            let p : ℕ = x .buf .0 in
+            let j = past-inv (next .middle) x (readTop o (next .first) b at) (sym answered ∙ e) in
             let y = lies (next .here) in
             let g = readTop-local o (next .first) .bound b at (j .0) p k (j .1) in (
               omega (arith, y .past, j .2),
@@ -141,9 +144,9 @@ module _ (o : Order) (s b : List ℕ) (off : ℕ) where
               },
             )
 
-        pub left-stop : (x : Refusal) → q ≡ Stopped x → (ts : List Ty) → parse s ≡ types ts → Refused x ≡ reachedOf (bodyR o ts b off)
+        pub left-stop : (x : Refusal) → q ≡ walked.Refused x → (ts : List Ty) → parse s ≡ types ts → Refused x ≡ reachedOf (bodyR o ts b off)
         left-stop x e ts z =
-            sym (same-next ts z ∙ none (next .first) (next .others) at x (stopped-inv (next .middle) x (readTop o (next .first) b at) (sym walked ∙ e)))
+            sym (same-next ts z ∙ none (next .first) (next .others) at x (stopped-inv (next .middle) x (readTop o (next .first) b at) (sym answered ∙ e)))
 
     module _ (l : length s ≤ i) (ts : List Ty) (z : parse s ≡ types ts) where
       last : reachedOf (bodyR o ts b off) ≡ reachedOf (ended b at)

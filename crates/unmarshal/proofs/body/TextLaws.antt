@@ -14,7 +14,7 @@ use Rattle.meaning.specs.Signature.{spell}
 use Rattle.meaning.specs.Number.{store}
 use Rattle.meaning.specs.Value.{_▹_, pad, raw, each, sized, bare, encBase, enc, encVar}
 use Rattle.meaning.specs.Message.{Field, encField, textOf, text}
-use Rattle.meaning.specs.Header.{entryAs, entry}
+use Rattle.meaning.specs.Header.{entryAs, endOf, entry}
 use Rattle.unmarshal.specs.Body.{cutOf}
 use Rattle.meaning.proofs.Meets.{At, at-split, at-read, then-at}
 
@@ -51,14 +51,14 @@ module _ (b : List ℕ) where
       var-ends o k v _ e (j .1)
 
   text-field : (o : Order) (d : List ℕ) (f : Field) (off e : ℕ) (v : List ℕ) (w : ℕ) → At b off (encField o f off) e → ((m : ℕ) × At b m (sized o w v) e)
-      → (v ≡ take (length v) (drop (off + length (encField o f off) - 1 - length v) b)) × (off + length (encField o f off) - 1 - length v + length v ≤ e)
+      → (v ≡ take (length v) (drop (endOf o f off - 1 - length v) b)) × (endOf o f off - 1 - length v + length v ≤ e)
   text-field o d f off e v w h s =
       let i = sized-ends o w (s .0) v e (s .1) in
-      let z : e ≡ off + length (encField o f off) = h .end in
+      let z : e ≡ endOf o f off = h .end in
       subst (λ (n : ℕ). (v ≡ take (length v) (drop (n - 1 - length v) b)) × (n - 1 - length v + length v ≤ e)) z (sym (i .0), i .1)
 
   one-field : (o : Order) (d : List ℕ) (c : ℕ) (w : Var 16) (off e : ℕ) → At b off (encField o (c, w) off) e
-      → (textOf d w ≡ cutOf d b (entryAs o (c, w) off w)) × Before e (entryAs o (c, w) off w)
+      → (textOf d w ≡ cutOf d b (entryAs (endOf o (c, w) off) w)) × Before e (entryAs (endOf o (c, w) off) w)
   unfolding bare
   one-field o d c (base (fix k), v) off e h = (refl, tt)
   one-field o d c (base str, v) off e h = text-field o d (c, (base str, v)) off e v 4 h (field-ends o c str v off e h)
@@ -81,17 +81,17 @@ module _ (b : List ℕ) where
   text-is o d c [] off e h = (refl, tt)
   text-is o d c (f ∷ fs) off e h =
       let i = then-at b off (encField o f) (each (encField o) fs) e h in
-      go (eqb (f .0) c) refl (i .0) (i .1 .end) (text-is o d c fs (off + length (encField o f off)) e (i .1))
+      go (eqb (f .0) c) refl (i .0) (i .1 .end) (text-is o d c fs (endOf o f off) e (i .1))
     where
-      go : (x : Bool) → eqb (f .0) c ≡ x → At b off (encField o f off) (off + length (encField o f off)) → e ≡ off + length (encField o f off) + length (each (encField o) fs (off + length (encField o f off)))
-          → (text d c fs ≡ cutOf d b (entry o c fs (off + length (encField o f off)))) × Before e (entry o c fs (off + length (encField o f off)))
+      go : (x : Bool) → eqb (f .0) c ≡ x → At b off (encField o f off) (endOf o f off) → e ≡ endOf o f off + length (each (encField o) fs (endOf o f off))
+          → (text d c fs ≡ cutOf d b (entry o c fs (endOf o f off))) × Before e (entry o c fs (endOf o f off))
           → (text d c (f ∷ fs) ≡ cutOf d b (entry o c (f ∷ fs) off)) × Before e (entry o c (f ∷ fs) off)
       go true q a z ih =
-          let k = one-field o d (f .0) (f .1) off (off + length (encField o f off)) a in
+          let k = one-field o d (f .0) (f .1) off (endOf o f off) a in
           let s : text d c (f ∷ fs) ≡ textOf d (f .1) = rw (q, text) in
-          let t : entry o c (f ∷ fs) off ≡ entryAs o f off (f .1) = rw (q, entry) in
-          (s ∙ k .0 ∙ sym (ap (cutOf d b) t), subst (Before e) (sym t) (before-more (off + length (encField o f off)) e (entryAs o f off (f .1)) (omega arith) (k .1)))
+          let t : entry o c (f ∷ fs) off ≡ entryAs (endOf o f off) (f .1) = rw (q, entry) in
+          (s ∙ k .0 ∙ sym (ap (cutOf d b) t), subst (Before e) (sym t) (before-more (endOf o f off) e (entryAs (endOf o f off) (f .1)) (omega arith) (k .1)))
       go false q a z ih =
           let s : text d c (f ∷ fs) ≡ text d c fs = rw (q, text) in
-          let t : entry o c (f ∷ fs) off ≡ entry o c fs (off + length (encField o f off)) = rw (q, entry) in
+          let t : entry o c (f ∷ fs) off ≡ entry o c fs (endOf o f off) = rw (q, entry) in
           (s ∙ ih .0 ∙ sym (ap (cutOf d b) t), subst (Before e) (sym t) (ih .1))

@@ -1,43 +1,38 @@
--- What any answer that meets the contract of the message check says: demands 2 and 3, and two messages back to back.
-use Prim.Native.Nat.{ℕ, _<_}
+-- Demands 2 and 3 of what `check_message` answers, and two messages back to back: of every call whose answer meets its contract, as the checker
+-- generates it.
 use mathlib.Core.List.{List, _++_}
-use mathlib.Core.Path.{_≡_, ap, sym, _∙_}
-use mathlib.Core.Logic.{_↔_, _≢_, _⊎_}
-use lib.ListN.{length, take, drop}
+use Prim.Native.Nat.{ℕ}
+use mathlib.Core.Path.{_≡_, ap, _∙_}
+use lib.ListN.{length, drop}
 use lib.Seq.{drop-append-seam}
-use Rattle.meaning.specs.declared.Refusal.{Refusal}
-use Rattle.meaning.specs.declared.Checked.{Checked}
-use Rattle.meaning.specs.declared.Checked.the-variants.{Refused}
-use Rattle.meaning.specs.Faults.{numberOf}
-use Rattle.meaning.specs.ReadValue.{taken}
-use Rattle.meaning.specs.Message.{Message, encodeMessage, Proper, EncodesMessage}
+use denote.Ref.{now}
+use Rattle.meaning.specs.Message.{Message, encodeMessage, Proper}
 use Rattle.meaning.specs.ReadMessage.{checkMessage}
-use Rattle.meaning.proofs.NumberLaws.{Bytes}
-use Rattle.meaning.proofs.MessageDemands.{exactly-messages, same-messages, grown-messages, cut-messages, back-to-back}
+use Rattle.meaning.proofs.MessageDemands.{back-to-back}
+use Rattle.meaning.proofs.Promises.{Told, accepts, toldOf, Answered, MessageDemands, message-demands}
+use Rattle.unmarshal.proofs.check_message.check_message.Reads as check-message
 
--- an answer for every buffer, as the contract has it
-module _ (answer : List ℕ → Checked) (contract : (b : List ℕ) → answer b ≡ checkMessage b) where
-  -- demand 2: accepted with n exactly when the first n bytes are a message
-  pub exactly : (b : List ℕ) → Bytes b → (n : ℕ) → (answer b ≡ taken n) ↔ EncodesMessage b n
-  exactly b y n = let e = exactly-messages b y n in (λ q. e .0 (sym (contract b) ∙ q), λ h. contract b ∙ e .1 h)
+abbrev pub Call : Type 0
+Call = Answered check-message.Learnt
 
-  -- demand 3: the answer rests on the message's own bytes
-  pub same-bytes : (b d : List ℕ) (n : ℕ) → answer b ≡ taken n → take n d ≡ take n b → answer d ≡ taken n
-  same-bytes b d n q e = contract d ∙ same-messages b d n (sym (contract b) ∙ q) e
+abbrev pub asked : Call → List ℕ
+asked c = now (c .args .0)
 
-  -- a refusal other than 2 and 3 stays when bytes are appended
-  pub stays : (b c : List ℕ) (x : Refusal) → answer b ≡ Refused x → numberOf (x .fault) ≢ 2 → numberOf (x .fault) ≢ 3 → answer (b ++ c) ≡ Refused x
-  stays b c x q h2 h3 = contract (b ++ c) ∙ grown-messages b c x (sym (contract b) ∙ q) h2 h3
+abbrev pub told : Call → Told
+told c = toldOf (c .answer)
 
-  -- a shorter cut of an accepted message is too short
-  pub cut : (b : List ℕ) (n k : ℕ) → answer b ≡ taken n → k < n → (x : Refusal) × (answer (take k b) ≡ Refused x) × ((numberOf (x .fault) ≡ 2) ⊎ (numberOf (x .fault) ≡ 3))
-  cut b n k q l = let i = cut-messages b n k (sym (contract b) ∙ q) l in (i .0, contract (take k b) ∙ i .1, i .2)
+is : (c : Call) → told c ≡ toldOf (checkMessage (asked c))
+is c = ap toldOf (c .meets)
 
-  -- two messages in one read: the first ends at its own length, and from there on the second is found
-  pub one-by-one : (m w : Message) (c : List ℕ) → Proper m → Proper w
-      → (answer (encodeMessage m ++ (encodeMessage w ++ c)) ≡ taken (length (encodeMessage m)))
-      × (answer (drop (length (encodeMessage m)) (encodeMessage m ++ (encodeMessage w ++ c))) ≡ taken (length (encodeMessage w)))
-  one-by-one m w c h k = (
-    contract (encodeMessage m ++ (encodeMessage w ++ c)) ∙ back-to-back m (encodeMessage w ++ c) h,
-    ap answer (drop-append-seam (encodeMessage m) (encodeMessage w ++ c)) ∙ contract (encodeMessage w ++ c) ∙ back-to-back w c k,
-  )
+pub demands : MessageDemands asked told
+demands = message-demands asked told is
+
+-- two messages in one read: the first ends at its own length, and from there on the second is found
+pub one-by-one : (c d : Call) (m w : Message) (rest : List ℕ) → Proper m → Proper w
+    → asked c ≡ encodeMessage m ++ (encodeMessage w ++ rest) → asked d ≡ drop (length (encodeMessage m)) (asked c)
+    → (told c ≡ accepts (length (encodeMessage m))) × (told d ≡ accepts (length (encodeMessage w)))
+one-by-one c d m w rest h k e f =
+    let g : asked d ≡ encodeMessage w ++ rest = f ∙ ap (drop (length (encodeMessage m))) e ∙ drop-append-seam (encodeMessage m) (encodeMessage w ++ rest) in (
+      is c ∙ ap (λ (b : List ℕ). toldOf (checkMessage b)) e ∙ ap toldOf (back-to-back m (encodeMessage w ++ rest) h),
+      is d ∙ ap (λ (b : List ℕ). toldOf (checkMessage b)) g ∙ ap toldOf (back-to-back w rest k),
+    )

@@ -14,7 +14,9 @@ refuse-requires : tie.Need-refuse-requires
 refuse-requires c κs = search needs
 
 returns : tie.Need-returns
-returns c = table-short _ _ (begun _ _ _ (c .before .before .before .before .before .fixed .ensures) (c .before .before .before .start .given .1)) _ (c .before .if1 .taken) (c .refuse .ensures)
+returns c =
+    let read = c .before .before .before in
+    table-short _ _ (begun _ _ _ (read .before .before .fixed .ensures) (read .start .given .1)) _ (c .before .if1 .taken) (c .refuse .ensures)
 
 load32-requires : tie.Need-load32-requires
 load32-requires c κs = search needs
@@ -26,7 +28,12 @@ refuse-requires-2 : tie.Need-refuse-requires-2
 refuse-requires-2 c κs = search needs
 
 returns-2 : tie.Need-returns-2
-returns-2 c = table-over _ _ (begun _ _ _ (c .before .before .before .before .before .before .before .fixed .ensures) (c .before .before .before .before .before .start .given .1)) _ (c .before .before .before .if1 .left) (c .before .before .load32 .ensures .is) _ (c .before .if2 .taken) (c .refuse2 .ensures)
+returns-2 c =
+    let load = c .before .before in
+    let long = load .before in
+    let read = long .before .before in
+    let begins = begun _ _ _ (read .before .before .fixed .ensures) (read .start .given .1) in
+    table-over _ _ begins _ (long .if1 .left) (load .load32 .ensures .is) _ (c .before .if2 .taken) (c .refuse2 .ensures)
 
 add-end : tie.Need-add-end
 add-end c = search needs
@@ -38,28 +45,44 @@ enum-known-fields : tie.Need-enum-known-fields
 enum-known-fields c = search needs
 
 unmarshal-next-message-requires : tie.Need-unmarshal-next-message-requires
-unmarshal-next-message-requires c κs = table-read _ _ (begun _ _ _ (c .before .before .before .before .before .before .before .before .before .before .fixed .ensures) (c .before .before .before .before .before .before .before .before .start .given .1)) _ (c .before .before .before .before .before .before .if1 .left) (c .before .before .before .before .before .load32 .ensures .is) (c .before .before .before .before .if2 .left) _ (c .before .before .before .unmarshal-header-fields .ensures) _ (c .before .fields .given .1)
+unmarshal-next-message-requires c κs =
+    let table = c .before .before .before in
+    let fits = table .before in
+    let load = fits .before in
+    let long = load .before in
+    let read = long .before .before in
+    let begins = begun _ _ _ (read .before .before .fixed .ensures) (read .start .given .1) in
+    table-read _ _ begins _ (long .if1 .left) (load .load32 .ensures .is) (fits .if2 .left) _ (table .unmarshal-header-fields .ensures) _ (c .before .fields .given .1)
 
 enum-known-refusal : tie.Need-enum-known-refusal
 enum-known-refusal c = search needs
 
-refuse-requires-3 : tie.Need-refuse-requires-3
-refuse-requires-3 c κs = search needs
+moved-requires : tie.Need-moved-requires
+moved-requires c κs = search needs
 
 enum-known-refusal-2 : tie.Need-enum-known-refusal-2
 enum-known-refusal-2 c = search needs
 
-refuse-requires-4 : tie.Need-refuse-requires-4
-refuse-requires-4 c κs = search needs
+moved-requires-2 : tie.Need-moved-requires-2
+moved-requires-2 c κs = search needs
 
 returns-3 : tie.Need-returns-3
 returns-3 c = search needs
 
 returns-4 : tie.Need-returns-4
-returns-4 c = table-refused _ _ (begun _ _ _ (c .before .before .before .before .before .before .before .before .before .before .before .fixed .ensures) (c .before .before .before .before .before .before .before .before .before .start .given .1)) _ (c .before .before .before .before .before .before .before .if1 .left) (c .before .before .before .before .before .before .load32 .ensures .is) (c .before .before .before .before .before .if2 .left) _ (c .before .before .before .before .unmarshal-header-fields .ensures) _ _ (c .before .before .refusal .given .1) (c .refuse3 .ensures)
+returns-4 c =
+    let refuses = c .before .before in
+    let table = refuses .before .before in
+    let fits = table .before in
+    let load = fits .before in
+    let long = load .before in
+    let read = long .before .before in
+    let begins = begun _ _ _ (read .before .before .fixed .ensures) (read .start .given .1) in
+    table-refused _ _ begins _ (long .if1 .left) (load .load32 .ensures .is) (fits .if2 .left) _ (table .unmarshal-header-fields .ensures) _ _
+    (refuses .refusal .given .1) (c .moved .ensures)
 
 returns-5 : tie.Need-returns-5
-returns-5 c = not-begun _ _ _ _ (c .before .before .before .before .fixed .ensures) (c .before .before .refusal2 .given .1) (c .refuse4 .ensures)
+returns-5 c = not-begun _ _ _ _ (c .before .before .before .before .fixed .ensures) (c .before .before .refusal2 .given .1) (c .moved2 .ensures)
 
 pub unmarshal-header-spec : {M : Type 1} → statement M
 unmarshal-header-spec =
@@ -78,9 +101,9 @@ unmarshal-header-spec =
     enum-known-fields
     unmarshal-next-message-requires
     enum-known-refusal
-    refuse-requires-3
+    moved-requires
     enum-known-refusal-2
-    refuse-requires-4
+    moved-requires-2
     returns-3
     returns-4
     returns-5)

@@ -23,5 +23,4 @@ unfolding gap
 returns-4 c = rw (is-one _ (c .before .before .before .pre) (c .before .before .if1 .left) (c .before .if2 .left) (c .if3 .left)) (omega arith)
 
 pub gap-spec : {M : Type 1} → statement M
-gap-spec =
-    tie.close (tie.spec (λ c. search needs) (λ c. search needs) (λ c. search needs) returns returns-2 returns-3 returns-4)
+gap-spec = tie.close (tie.spec (λ c. search needs) (λ c. search needs) (λ c. search needs) returns returns-2 returns-3 returns-4)

@@ -1,12 +1,9 @@
 -- `readInteger` by the ways through the code, at every width.
 use Prim.Native.Nat.{ℕ, _-_, _≤_, _<_}
 use native.Mathlib.Omega.{arith}
-use mathlib.Core.Bool.{Bool, true, false}
 use mathlib.Core.List.{List}
-use mathlib.Core.Path.{_≡_, refl, ap, sym, _∙_}
-use lib.Dec.{T, eqb}
+use mathlib.Core.Path.{_≡_, ap, sym, _∙_}
 use lib.ListN.{length}
-use borrow.Author.Tests.{ne-eqb, eqb-true}
 use Rattle.meaning.specs.Faults.{refusal}
 use Rattle.meaning.specs.Number.{load}
 use Rattle.meaning.specs.Reader.{ret, _>>=_, bytes}
@@ -17,14 +14,7 @@ use Rattle.meaning.specs.declared.Refusal.{Refusal}
 use Rattle.meaning.specs.declared.Fault.the-variants.{BadOffset, NotEnoughBytes}
 use Rattle.meaning.proofs.Local.{bytes-yes, bytes-no, bind-got, bind-fault, leb-true, leb-false}
 use Rattle.meaning.proofs.Meets.{here-bind}
-use Rattle.util.specs.Loaded.{Loaded, isWidth}
-
-pub is-eight : (w : ℕ) → T (isWidth w) → (w ≡ 2 → ⊥) → (w ≡ 4 → ⊥) → w ≡ 8
-is-eight w t h2 h4 = go (eqb w 8) refl
-  where
-    go : (q : Bool) → eqb w 8 ≡ q → w ≡ 8
-    go true e = eqb-true w 8 e
-    go false e = absurd (rw (ne-eqb w 2 h2, ne-eqb w 4 h4, e) at t)
+use Rattle.util.specs.Loaded.{Loaded}
 
 module _ (o : Order) (w : ℕ) (b : List ℕ) (at : ℕ) where
   pub outside : length b < at → (x : Refusal) → x ≡ refusal BadOffset at → Refused x ≡ readInteger o w b at
@@ -39,9 +29,7 @@ module _ (o : Order) (w : ℕ) (b : List ℕ) (at : ℕ) where
   too-few h k x e =
       ap Refused e ∙ sym (within h ∙ ap integerOf (bind-fault (bytes w at) (λ xs. ret (load o xs)) b at _ (bytes-no w at b at (omega arith))))
 
-  -- the code knows the width as one of three numbers
-  pub is-read : at ≤ length b → w ≤ length b - at → (n v : ℕ) → w ≡ n → Loaded o n b at v → Read v ≡ readInteger o w b at
+  pub is-read : at ≤ length b → w ≤ length b - at → (v : ℕ) → Loaded o w b at v → Read v ≡ readInteger o w b at
   unfolding ret
-  is-read h k n v e l =
-      let q : Loaded o w b at v = rw e l in
-      ap Read (q .is) ∙ sym (within h ∙ ap integerOf (bind-got (bytes w at) (λ xs. ret (load o xs)) b at _ _ (bytes-yes w at b at (omega arith))))
+  is-read h k v l =
+      ap Read (l .is) ∙ sym (within h ∙ ap integerOf (bind-got (bytes w at) (λ xs. ret (load o xs)) b at _ _ (bytes-yes w at b at (omega arith))))

@@ -4,11 +4,6 @@ use Rattle.util.proofs.integers.parse_u16.Reads as parse-u16
 use Rattle.util.proofs.integers.parse_u32.Reads as parse-u32
 use Rattle.util.proofs.integers.parse_u64.Reads as parse-u64
 
-pub one-parse-u16 : OneAnswer parse-u16.Learnt
-one-parse-u16 κs a x y s t h k = both h k
-
-pub one-parse-u32 : OneAnswer parse-u32.Learnt
-one-parse-u32 κs a x y s t h k = both h k
-
-pub one-parse-u64 : OneAnswer parse-u64.Learnt
-one-parse-u64 κs a x y s t h k = both h k
+-- an integer of each width
+pub one-integer : OneAnswer parse-u16.Learnt × OneAnswer parse-u32.Learnt × OneAnswer parse-u64.Learnt
+one-integer = (λ κs a x y s t h k. both h k, λ κs a x y s t h k. both h k, λ κs a x y s t h k. both h k)

@@ -13,5 +13,4 @@ returns-2 : tie.Need-returns-2
 returns-2 c = rw (c .before .reached2 .given .1)
 
 pub taken-from-spec : {M : Type 1} → statement M
-taken-from-spec =
-    tie.close (tie.spec (λ c. search needs) sub-t7 (λ c. search needs) returns returns-2)
+taken-from-spec = tie.close (tie.spec (λ c. search needs) sub-t7 (λ c. search needs) returns returns-2)

@@ -29,4 +29,5 @@ returns-2 c = all-passed _ _ _ _ (c .before .loop .inv .0) (c .loop-test .left) 
 
 pub zeros-spec : {M : Type 1} → statement M
 zeros-spec =
-    tie.close (tie.spec Inv-loop μ-loop loop-holds (λ c. omega arith) (λ c. omega arith) returns (λ c. omega arith) (λ c. omega arith) loop-again returns-2)
+    tie.close (tie.spec Inv-loop μ-loop loop-holds (λ c. omega arith) (λ c. omega arith) returns (λ c. omega arith)
+    (λ c. omega arith) loop-again returns-2)

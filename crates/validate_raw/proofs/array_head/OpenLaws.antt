@@ -45,30 +45,40 @@ module _ (a n : ℕ) (b : List ℕ) (end off : ℕ) (z : length b ≡ end) where
       lying-late x l e =
           rw e (sym (ap (openedOf (end)) lies ∙ ap (λ (y : Bool). insideIf y (p .0) n) (leb-false (p .0 + n) (end) l)))
 
-      pub lying-inside : p .0 + n ≤ end → Inside (p .0) (p .0 + n) ≡ openedOf (end) (lyingR a n b off)
+      pub lying-inside : p .0 + n ≤ end → Inside (record { 0 = p .0 }) (record { 0 = n }) ≡ openedOf (end) (lyingR a n b off)
       lying-inside l = sym (ap (openedOf (end)) lies ∙ ap (λ (y : Bool). insideIf y (p .0) n) (leb-true (p .0 + n) (end) l))
 
-module _ (o : Order) (a : ℕ) (b : List ℕ) (end off : ℕ) (z : length b ≡ end) where
-  pub head-stop : (x : Refusal) → reachedOf (padding 4 b off) ≡ Refused x → Shut x ≡ openedOf (end) (headR o a b off)
+-- the alignment of an array and the size of its length field are what the code read from the table
+module _ (o : Order) (a : ℕ) (b : List ℕ) (end off : ℕ) (z : length b ≡ end) (to : ℕ) (four : to ≡ 4) where
+  pub head-stop : (x : Refusal) → reachedOf (padding to b off) ≡ Refused x → Shut x ≡ openedOf (end) (headR o a b off)
   unfolding headR
-  head-stop x h = sym (ap (openedOf (end)) (bind-fault (padding 4) (λ u. lengthR o >>= λ n. lyingR a n) b off x (refused-inv (padding 4 b off) x h)))
+  head-stop x h =
+      let k : reachedOf (padding 4 b off) ≡ Refused x = rw four at h in
+      sym (ap (openedOf (end)) (bind-fault (padding 4) (λ u. lengthR o >>= λ n. lyingR a n) b off x (refused-inv (padding 4 b off) x k)))
 
-  module _ (p : Place) (h : reachedOf (padding 4 b off) ≡ At p) where
+  module _ (p : Place) (h : reachedOf (padding to b off) ≡ At p) (w : ℕ) (wide : w ≡ 4) where
     counted : headR o a b off ≡ (lengthR o >>= λ n. lyingR a n) b (p .0)
     unfolding headR
-    counted = let i = at-inv (padding 4 b off) p h in bind-got (padding 4) (λ u. lengthR o >>= λ n. lyingR a n) b off (i .0) (p .0) (i .1)
+    counted =
+        let k : reachedOf (padding 4 b off) ≡ At p = rw four at h in
+        let i = at-inv (padding 4 b off) p k in
+        bind-got (padding 4) (λ u. lengthR o >>= λ n. lyingR a n) b off (i .0) (p .0) (i .1)
 
-    pub head-short : (x : Refusal) → end < p .0 + 4 → x ≡ refusal NotEnoughBytes (p .0) → Shut x ≡ openedOf (end) (headR o a b off)
+    pub head-short : (x : Refusal) → end < p .0 + w → x ≡ refusal NotEnoughBytes (p .0) → Shut x ≡ openedOf (end) (headR o a b off)
     unfolding lengthR
     head-short x l e =
         let s : lengthR o b (p .0) ≡ stop NotEnoughBytes (p .0) =
-        here-bind (λ q. bytes 4 q >>= λ y. ret (load o y)) b (p .0) ∙ bind-fault (bytes 4 (p .0)) (λ y. ret (load o y)) b (p .0) (refusal NotEnoughBytes (p .0)) (bytes-no 4 (p .0) b (p .0) (omega arith)) in
+        here-bind (λ q. bytes 4 q >>= λ y. ret (load o y)) b (p .0)
+        ∙ bind-fault (bytes 4 (p .0)) (λ y. ret (load o y)) b (p .0) (refusal NotEnoughBytes (p .0)) (bytes-no 4 (p .0) b (p .0) (omega arith)) in
         rw e (sym (ap (openedOf (end)) (counted ∙ bind-fault (lengthR o) (λ n. lyingR a n) b (p .0) (refusal NotEnoughBytes (p .0)) s)))
 
-    pub head-read : (n : ℕ) (r : Opened) → p .0 + 4 ≤ end → n ≡ load o (take 4 (drop (p .0) b)) → r ≡ openedOf (end) (lyingR a n b (p .0 + 4)) → r ≡ openedOf (end) (headR o a b off)
+    pub head-read : (n : ℕ) (r : Opened) → p .0 + w ≤ end → n ≡ load o (take 4 (drop (p .0) b)) → r ≡ openedOf (end) (lyingR a n b (p .0 + w))
+        → r ≡ openedOf (end) (headR o a b off)
     unfolding lengthR ret
     head-read n r l e g =
         let s : lengthR o b (p .0) ≡ got n (p .0 + 4) =
-        here-bind (λ q. bytes 4 q >>= λ y. ret (load o y)) b (p .0) ∙ bind-got (bytes 4 (p .0)) (λ y. ret (load o y)) b (p .0) (take 4 (drop (p .0) b)) (p .0 + 4) (bytes-yes 4 (p .0) b (p .0) (omega arith))
+        here-bind (λ q. bytes 4 q >>= λ y. ret (load o y)) b (p .0)
+        ∙ bind-got (bytes 4 (p .0)) (λ y. ret (load o y)) b (p .0) (take 4 (drop (p .0) b)) (p .0 + 4) (bytes-yes 4 (p .0) b (p .0) (omega arith))
         ∙ ap (λ (y : ℕ). got y (p .0 + 4)) (sym e) in
-        g ∙ sym (ap (openedOf (end)) (counted ∙ bind-got (lengthR o) (λ m. lyingR a m) b (p .0) n (p .0 + 4) s))
+        g ∙ ap (λ (y : ℕ). openedOf end (lyingR a n b (p .0 + y))) wide
+        ∙ sym (ap (openedOf (end)) (counted ∙ bind-got (lengthR o) (λ m. lyingR a m) b (p .0) n (p .0 + 4) s))

@@ -66,3 +66,9 @@ one-byte Big x = refl
 
 pub single-byte : (o : Order) (l : List ℕ) (at x : ℕ) → set l at (x % 256) ≡ sets l at (store o 1 x)
 single-byte o l at x = rw (one-byte o x)
+
+-- two bytes are two halves of one byte each
+pub two-bytes : (o : Order) (l : List ℕ) (at x v w : ℕ) → v ≡ first o 256 x % 256 → w ≡ second o 256 x % 256
+    → set (set l at v) (at + 1) w ≡ sets l at (store o 2 x)
+two-bytes o l at x v w p q =
+    rw (p, q) (halves o 1 l at x (set l at (first o 256 x % 256)) _ (single-byte o l at _) (single-byte o _ (at + 1) _))

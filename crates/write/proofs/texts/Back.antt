@@ -1,6 +1,6 @@
 -- Read-back: what a writer wrote is accepted there with the written length and reads as the same value. Each theorem is about any answer and any
 -- buffer that meet the writer's contract.
-use Prim.Native.Nat.{ℕ, _+_, _-_, _^_, _≤_, _<_}
+use Prim.Native.Nat.{ℕ, suc, _+_, _-_, _^_, _≤_, _<_}
 use native.Mathlib.Omega.{arith}
 use mathlib.Core.Bool.{Bool, true, false}
 use mathlib.Core.List.{List, [], _++_, append-assoc}
@@ -130,6 +130,13 @@ fixed-back o c x h b at p after g m =
     let s = met-stands (integerBytes o (size c) x) b at p after (store o (size c) x) refl m in
     subst (λ (n : ℕ). Back (baseR o (fix c)) x n after at p) (length-store o (size c) x) (base-back o (fix c) x h after at p s g)
 
+-- a text with its length before it and a zero behind it reads as itself, with the length of all three
+sized-back : (r : R (List ℕ)) (o : Order) (w : ℕ) (s : List ℕ) (c : Content) (b : List ℕ) (at : ℕ) (p : Place) (after : List ℕ) → c ≡ bytes (sized o w s)
+    → Met c b at p after → (Stands (sized o w s) after at p → Back r s (length (sized o w s)) after at p) → Back r s (length s + suc w) after at p
+sized-back r o w s c b at p after e m h =
+    let n : length (sized o w s) ≡ length s + suc w = sym (length-sized o w s) ∙ omega arith in
+    subst (λ (z : ℕ). Back r s z after at p) n (h (met-stands c b at p after (sized o w s) e m))
+
 -- Strings: what was not refused is a string, and reads as itself
 string-fine : (o : Order) (s : List ℕ) → ((f : Fault) → stringBytes o s ≡ faulty f → ⊥) → OkBase str s × (stringBytes o s ≡ bytes (sized o 4 s))
 unfolding OkBase
@@ -141,14 +148,11 @@ string-fine o s h = go (ltb (length s) (256 ^ 4)) (utf8 s) (noZero s) refl refl 
     go true true false e f g = absurd (h StringContainsNullByte (rw (e, f, g)))
     go true true true e f g = ((utf8-sound s (rw f tt), rw g tt, ltb-true (length s) (256 ^ 4) e), rw (e, f, g))
 
-module _ (o : Order) (s b : List ℕ) (at : ℕ) (p : Place) (after : List ℕ) (m : Met (stringBytes o s) b at p after) where
-  pub string-back : Back (readText o) s (length s + 5) after at p
-  unfolding bareR bare
-  string-back =
-      let k = string-fine o s (λ f e. no-fault (stringBytes o s) b at p after f e m) in
-      let t = met-stands (stringBytes o s) b at p after (sized o 4 s) (k .1) m in
-      let n : length (sized o 4 s) ≡ length s + 5 = sym (length-sized o 4 s) ∙ omega arith in
-      subst (λ (z : ℕ). Back (readText o) s z after at p) n (bare-back o str s (k .0) after at p t)
+pub string-back : (o : Order) (s b : List ℕ) (at : ℕ) (p : Place) (after : List ℕ) → Met (stringBytes o s) b at p after → Back (readText o) s (length s + 5) after at p
+unfolding bareR bare
+string-back o s b at p after m =
+    let k = string-fine o s (λ f e. no-fault (stringBytes o s) b at p after f e m) in
+    sized-back (readText o) o 4 s (stringBytes o s) b at p after (k .1) m (bare-back o str s (k .0) after at p)
 
 -- Signatures
 signature-fine : (o : Order) (s : List ℕ) → ((f : Fault) → signatureBytes o s ≡ faulty f → ⊥) → OkBase sig s × (signatureBytes o s ≡ bytes (sized o 1 s))
@@ -159,14 +163,11 @@ signature-fine o s h = go (parse s) refl
     go (types ts) e = let w = parse-sound s ts e in ((ts, w .0, w .1, w .2), ap (signatureFrom o s) e)
     go (refused f) e = absurd (h f (ap (signatureFrom o s) e))
 
-module _ (o : Order) (s b : List ℕ) (at : ℕ) (p : Place) (after : List ℕ) (m : Met (signatureBytes o s) b at p after) where
-  pub signature-back : Back (readG o) s (length s + 2) after at p
-  unfolding bareR bare
-  signature-back =
-      let k = signature-fine o s (λ f e. no-fault (signatureBytes o s) b at p after f e m) in
-      let t = met-stands (signatureBytes o s) b at p after (sized o 1 s) (k .1) m in
-      let n : length (sized o 1 s) ≡ length s + 2 = sym (length-sized o 1 s) ∙ omega arith in
-      subst (λ (z : ℕ). Back (readG o) s z after at p) n (bare-back o sig s (k .0) after at p t)
+pub signature-back : (o : Order) (s b : List ℕ) (at : ℕ) (p : Place) (after : List ℕ) → Met (signatureBytes o s) b at p after → Back (readG o) s (length s + 2) after at p
+unfolding bareR bare
+signature-back o s b at p after m =
+    let k = signature-fine o s (λ f e. no-fault (signatureBytes o s) b at p after f e m) in
+    sized-back (readG o) o 1 s (signatureBytes o s) b at p after (k .1) m (bare-back o sig s (k .0) after at p)
 
 -- Padding: accepted with its length, and it leads to a place of the alignment
 aligned : (a : ℕ) → isAlignment a ≡ true → (off : ℕ) → gap a (off + gap a off) ≡ 0

@@ -13,13 +13,15 @@ use Rattle.meaning.specs.ReadValue.{countedOf}
 use Rattle.meaning.specs.Writers.{bytes, faulty, stringBytes, signatureFrom, signatureBytes}
 use Rattle.meaning.specs.declared.Fault.the-variants.{InvalidUtf8, StringContainsNullByte, TextTooLong}
 use Rattle.meaning.specs.declared.Counted.the-variants.{Types, Refused}
+use Rattle.meaning.specs.declared.Fault.{Fault}
 use Rattle.meaning.specs.declared.Refusal.{Refusal}
+use Rattle.meaning.specs.Faults.{refusal}
 use Rattle.meaning.specs.declared.Order.{Order}
 use Rattle.meaning.specs.declared.Order.the-variants.{Little}
 use Rattle.meaning.proofs.NumberLaws.{length-store}
 use Rattle.meaning.proofs.SignatureLaws.{parse-sound}
 use Rattle.text.specs.declared.Text.the-variants.{Fine, NotUtf8, HasZero}
-use Rattle.text.specs.Verdict.{textOf}
+use Rattle.text.specs.Verdict.{textNumber, textFault}
 use Rattle.text.proofs.Scans.{text-says}
 use Rattle.write.proofs.store.Stores.{sets-append, one-byte}
 
@@ -42,13 +44,13 @@ module _ (o : Order) (s : List ℕ) where
   too-long h = rw (le-ltb (length s) (256 ^ 4) (omega arith))
 
   module _ (h : length s ≤ 4294967295) where
-    pub fine : Fine ≡ textOf s → stringBytes o s ≡ bytes (sized o 4 s)
+    pub fine : textNumber Fine ≡ textFault s → stringBytes o s ≡ bytes (sized o 4 s)
     fine e = let t = text-says Fine s e in rw (lt-ltb (length s) (256 ^ 4) (omega arith), t .0, t .1)
 
-    pub not-utf8 : NotUtf8 ≡ textOf s → stringBytes o s ≡ faulty InvalidUtf8
+    pub not-utf8 : textNumber NotUtf8 ≡ textFault s → stringBytes o s ≡ faulty InvalidUtf8
     not-utf8 e = let t = text-says NotUtf8 s e in rw (lt-ltb (length s) (256 ^ 4) (omega arith), t)
 
-    pub has-zero : HasZero ≡ textOf s → stringBytes o s ≡ faulty StringContainsNullByte
+    pub has-zero : textNumber HasZero ≡ textFault s → stringBytes o s ≡ faulty StringContainsNullByte
     has-zero e = let t = text-says HasZero s e in rw (lt-ltb (length s) (256 ^ 4) (omega arith), t .0, t .1)
 
 -- a signature, by the count of its types
@@ -67,9 +69,11 @@ sized-one o s = rw (one-byte o (length s), one-byte Little (length s))
 pub is-signature : (o : Order) (s : List ℕ) (n : ℕ) → Types n ≡ countedOf (parse s) → signatureBytes o s ≡ bytes (sized Little 1 s)
 is-signature o s n h = spells o s (parse s) n refl h .1 ∙ ap bytes (sized-one o s)
 
-faults : (o : Order) (s : List ℕ) (p : Parsed) (x : Refusal) → Refused x ≡ countedOf p → signatureFrom o s p ≡ faulty (x .fault)
+faults : (o : Order) (s : List ℕ) (p : Parsed) (x : Refusal) → Refused x ≡ countedOf p
+    → (k : Fault) × (signatureFrom o s p ≡ faulty k) × (x ≡ refusal k 0)
 faults o s (types ts) x h = absurd (let z : _≡_ {A = ℕ} 0 1 = cc in omega arith)
-faults o s (refused k) x h = let z : k ≡ x .fault = cc in ap faulty z
+faults o s (refused k) x h = (k, refl, cc)
 
-pub not-signature : (o : Order) (s : List ℕ) (x : Refusal) → Refused x ≡ countedOf (parse s) → signatureBytes o s ≡ faulty (x .fault)
+pub not-signature : (o : Order) (s : List ℕ) (x : Refusal) → Refused x ≡ countedOf (parse s)
+    → (k : Fault) × (signatureBytes o s ≡ faulty k) × (x ≡ refusal k 0)
 not-signature o s x h = faults o s (parse s) x h

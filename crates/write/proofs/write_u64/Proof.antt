@@ -1,29 +1,12 @@
 -- The table says how wide the number is.
-use mathlib.Core.Path.{_≡_, _∙_, sym, subst}
-use Prim.Native.Nat.{ℕ}
-use lib.Dec.{T}
 use Rattle.meaning.specs.Types.{u64}
-use Rattle.meaning.specs.Writers.{isAlignment}
-use Rattle.types.proofs.CodeLaws.{size-fix}
+use Rattle.types.proofs.CodeLaws.{size-is, size-aligns}
 use borrow.Author.Needs.{needs}
 use Rattle.write.proofs.write_u64.Statement.{statement}
 use Rattle.write.proofs.write_u64.Tie as tie
-use Rattle.write.proofs.write_u64.Reads as reads
-use Rattle.write.proofs.write_u64.Lts as lts
-use Rattle.types.proofs.size.Reads as size-reads
-use Rattle.write.proofs.write_integer.Reads as write-integer-reads
-
-size-requires : tie.Need-size-requires
-size-requires c κs = search needs
-
-write-integer-requires : tie.Need-write-integer-requires
-write-integer-requires c κs = subst (λ (n : ℕ). T (isAlignment n)) (sym (c .before .size .ensures ∙ size-fix u64)) tt
-
-same-length : tie.Need-same-length
-same-length c = search needs
 
 returns : tie.Need-returns
-returns c = rw (c .before .before .before .before .size .ensures ∙ size-fix u64) at (c .before .before .write-integer .ensures)
+returns c = rw (size-is u64 _ (c .before .before .before .before .size .ensures)) at (c .before .before .write-integer .ensures)
 
 pub write-u64-spec : {M : Type 1} → statement M
-write-u64-spec = tie.close (tie.spec size-requires write-integer-requires same-length returns)
+write-u64-spec = tie.close (tie.spec (λ c κs. search needs) (λ c κs. size-aligns u64 _ (c .before .size .ensures)) (λ c. search needs) returns)

@@ -1,7 +1,5 @@
 -- The digits that the array begins with are sixteen.
-use mathlib.Core.Path.{_≡_, _∙_}
-use Prim.Native.Nat.{ℕ}
-use Rattle.text_out.proofs.PutLaws.{alone}
+use mathlib.Core.Path.{_∙_}
 use Rattle.answer_text.proofs.fixed_text.Sixteen.{sixteen-digits}
 use borrow.Author.Needs.{needs}
 use Rattle.answer_text.proofs.fixed_text.bits.Statement.{statement}
@@ -9,7 +7,8 @@ use Rattle.answer_text.proofs.fixed_text.bits.Tie as tie
 
 returns : tie.Need-returns
 returns c =
-    let d = c .before .before .before .before .before .hex .ensures .1 in let e = d .1 ∙ sixteen-digits _ _ (search needs) (d .0) in rw (← e) (alone (c .before .before .put .ensures))
+    let d = c .before .before .before .before .before .hex .ensures .1 in
+    rw (← d .1 ∙ sixteen-digits _ _ (search needs) (d .0)) (c .before .before .put .ensures)
 
 pub bits-spec : {M : Type 1} → statement M
 bits-spec =

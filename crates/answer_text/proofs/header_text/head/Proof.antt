@@ -6,8 +6,14 @@ use Rattle.answer_text.proofs.header_text.head.Tie as tie
 
 returns : tie.Need-returns
 returns c =
-    then (rw (c .before .before .before .before .before .before .before .before .before .before .before .before .length-of .ensures) at (c .before .before .before .before .before .before .before .before .before .before .before .labelled .ensures)) (then (rw (c .before .before .before .before .before .before .before .mark-of .ensures) at (c .before .before .before .before .before .before .mark .ensures)) (c .before .before .numbers .ensures))
+    let m = c .before .before .before .before .before .before in
+    let l = m .before .before .before .before .before in
+    let length = rw (l .before .length-of .ensures) at (l .labelled .ensures) in
+    let order = rw (m .before .mark-of .ensures) at (m .mark .ensures) in
+    then length (then order (c .before .before .numbers .ensures))
 
 pub head-spec : {M : Type 1} → statement M
 head-spec =
-    tie.close (tie.spec (λ c. search needs) (λ c κs. search needs) (λ c κs. search needs) (λ c κs. search needs) (λ c κs. search needs) (λ c κs. search needs) (λ c. search needs) returns)
+    tie.close
+    (tie.spec (λ c. search needs) (λ c κs. search needs) (λ c κs. search needs) (λ c κs. search needs) (λ c κs. search needs)
+    (λ c κs. search needs) (λ c. search needs) returns)

@@ -3,14 +3,6 @@ use borrow.Author.Needs.{needs}
 use Rattle.answer_text.proofs.header_text.mark_of.Statement.{statement}
 use Rattle.answer_text.proofs.header_text.mark_of.Tie as tie
 
-returns : tie.Need-returns
-returns c =
-    rw (c .enum-told .given .1)
-
-returns-2 : tie.Need-returns-2
-returns-2 c =
-    rw (c .enum-told2 .given .1)
-
 pub mark-of-spec : {M : Type 1} → statement M
 mark-of-spec =
-    tie.close (tie.spec (λ c. search needs) (λ c. search needs) returns returns-2)
+    tie.close (tie.spec (λ c. search needs) (λ c. search needs) (λ c. rw (c .enum-told .given .1)) (λ c. rw (c .enum-told2 .given .1)))

@@ -9,8 +9,11 @@ use Rattle.answer_text.proofs.header_text.number_at.Tie as tie
 
 returns : tie.Need-returns
 returns c =
-    let h = c .before .before .before .before .before .before .args .h in ap (λ (k : ℕ). getD (k ∷ h .flags ∷ h .version ∷ h .serial ∷ h .body .0 ∷ h .«body_length» .0 ∷ []) (c .before .before .before .before .before .before .args .i) 0) (c .before .before .before .code-of .ensures)
+    let a = c .before .before .before .before .before .before .args in
+    let h = a .h in
+    ap (λ (k : ℕ). getD (k ∷ h .flags ∷ h .version ∷ h .serial ∷ h .body .0 ∷ h .«body_length» .0 ∷ []) (a .i) 0) (c .before .before .before .code-of .ensures)
 
 pub number-at-spec : {M : Type 1} → statement M
 number-at-spec =
-    tie.close (tie.spec (λ c κs. search needs) (λ c. search needs) (λ c. search needs) (λ c. search needs) (λ c. search needs) (λ c. search needs) returns)
+    tie.close
+    (tie.spec (λ c κs. search needs) (λ c. search needs) (λ c. search needs) (λ c. search needs) (λ c. search needs) (λ c. search needs) returns)

@@ -17,12 +17,23 @@ spelled-types-requires c κs = search needs
 enum-known-n : tie.Need-enum-known-n
 enum-known-n c = search needs
 
-add-t11 : tie.Need-add-t11
-add-t11 c = search needs
+add-first : tie.Need-add-first
+add-first c = search needs
 
-sub-t12 : tie.Need-sub-t12
-sub-t12 c =
-    let i = inner-past Little _ _ _ (c .before .before .before .before .before .before .pre) _ _ (sym (c .before .before .n .given .1) ∙ c .before .before .before .before .spelled-types .ensures Little) in
+sub-stop : tie.Need-sub-stop
+sub-stop c =
+    let c-pre = c .before .before .before .before .before .before .before .pre in
+    let c-n = c .before .before .before .n in
+    let c-spelled-types = c .before .before .before .before .before .spelled-types in
+    let i = inner-past Little _ _ _ (c-pre) _ _ (sym (c-n .given .1) ∙ (c-spelled-types .ensures) Little) in
+    omega arith
+
+sub-t14 : tie.Need-sub-t14
+sub-t14 c =
+    let c-pre = c .before .before .before .before .before .before .before .pre in
+    let c-n = c .before .before .before .n in
+    let c-spelled-types = c .before .before .before .before .before .spelled-types in
+    let i = inner-past Little _ _ _ (c-pre) _ _ (sym (c-n .given .1) ∙ (c-spelled-types .ensures) Little) in
     omega arith
 
 refuse-requires : tie.Need-refuse-requires
@@ -35,16 +46,25 @@ enum-known-refusal : tie.Need-enum-known-refusal
 enum-known-refusal c = search needs
 
 returns : tie.Need-returns
-returns c = λ o. inner-one o _ _ _ (c .before .before .before .before .before .before .pre) _ _ (c .if1 .taken) (sym (c .before .before .n .given .1) ∙ c .before .before .before .before .spelled-types .ensures o)
+returns c =
+    let c-pre = c .before .before .before .before .before .before .before .pre in
+    let c-if1 = c .before .if1 in
+    let c-n = c .before .before .before .n in
+    let c-spelled-types = c .before .before .before .before .before .spelled-types in
+    λ o. inner-one o _ _ _ (c-pre) _ _ (c-if1 .taken) (sym (c-n .given .1) ∙ (c-spelled-types .ensures) o)
 
 returns-2 : tie.Need-returns-2
-returns-2 c = λ o. inner-none o _ _ _ (c .before .before .before .before .before .before .before .before .pre) _ _ _ (c .before .if2 .taken) (sym (c .before .before .before .before .n .given .1) ∙ c .before .before .before .before .before .before .spelled-types .ensures o) (c .refuse .ensures)
+returns-2 c = λ o.
+    let spelt = sym (c .before .before .before .before .n .given .1) ∙ (c .before .before .before .before .before .before .spelled-types .ensures) o in
+    inner-none o _ _ _ (c .before .before .before .before .before .before .before .before .pre) _ _ _ (c .before .if2 .taken) spelt (c .refuse .ensures)
 
 returns-3 : tie.Need-returns-3
-returns-3 c = λ o. inner-more o _ _ _ (c .before .before .before .before .before .before .before .before .pre) _ _ _ (c .before .if2 .left) (c .before .before .if1 .left) (sym (c .before .before .before .before .n .given .1) ∙ c .before .before .before .before .before .before .spelled-types .ensures o) (c .refuse2 .ensures)
+returns-3 c = λ o.
+    let spelt = sym (c .before .before .before .before .n .given .1) ∙ (c .before .before .before .before .before .before .spelled-types .ensures) o in
+    inner-more o _ _ _ (c .before .before .before .before .before .before .before .before .pre) _ _ _ (c .before .if2 .left) (c .before .before .if1 .left) spelt (c .refuse2 .ensures)
 
 returns-4 : tie.Need-returns-4
-returns-4 c = λ o. inner-stop o _ _ _ (c .before .before .before .before .before .pre) _ (sym (c .before .refusal .given .1) ∙ c .before .before .before .spelled-types .ensures o)
+returns-4 c = λ o. inner-stop o _ _ _ (c .before .before .before .before .before .pre) _ (sym (c .before .refusal .given .1) ∙ (c .before .before .before .spelled-types .ensures) o)
 
 pub inner-spec : {M : Type 1} → statement M
 inner-spec =
@@ -52,8 +72,9 @@ inner-spec =
     (tie.spec
     spelled-types-requires
     enum-known-n
-    add-t11
-    sub-t12
+    add-first
+    sub-stop
+    sub-t14
     refuse-requires
     refuse-requires-2
     enum-known-refusal

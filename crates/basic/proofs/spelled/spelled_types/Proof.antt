@@ -8,7 +8,7 @@ use Rattle.basic.proofs.spelled.spelled_types.Statement.{statement}
 use Rattle.basic.proofs.spelled.spelled_types.Tie as tie
 use Rattle.basic.proofs.spelled.spelled_types.Reads as reads
 use Rattle.basic.proofs.spelled.spelled_types.Lts as lts
-use Rattle.meaning.proofs.refuse.Reads as refuse-reads
+use Rattle.meaning.proofs.moved.Reads as moved-reads
 use Rattle.signature.proofs.parse_description.Reads as parse-description-reads
 use Rattle.text.proofs.strings.read_signature_text.Reads as read-signature-text-reads
 
@@ -50,17 +50,30 @@ enum-known-n c = search needs
 enum-known-refusal : tie.Need-enum-known-refusal
 enum-known-refusal c = search needs
 
-refuse-requires : tie.Need-refuse-requires
-refuse-requires c κs = search needs
+moved-requires : tie.Need-moved-requires
+moved-requires c κs = search needs
 
 enum-known-refusal-2 : tie.Need-enum-known-refusal-2
 enum-known-refusal-2 c = search needs
 
 returns : tie.Need-returns
-returns c = λ o. spelt-types o _ _ _ (c .before .before .before .before .before .before .before .before .before .before .pre) _ (sym (c .before .before .before .before .before .before .before .before .read-signature-text .ensures o) ∙ c .before .before .before .before .before .before .place .given .1) _ (sym (c .before .n .given .1) ∙ c .before .before .before .parse-description .ensures)
+returns c =
+    let c-pre = c .before .before .before .before .before .before .before .before .before .before .pre in
+    let c-read-signature-text = c .before .before .before .before .before .before .before .before .read-signature-text in
+    let c-place = c .before .before .before .before .before .before .place in
+    let c-n = c .before .n in
+    let c-parse-description = c .before .before .before .parse-description in
+    λ o. spelt-types o _ _ _ (c-pre) _ (sym (c-read-signature-text .ensures o) ∙ c-place .given .1) _ (sym (c-n .given .1) ∙ c-parse-description .ensures)
 
 returns-2 : tie.Need-returns-2
-returns-2 c = λ o. spelt-refused o _ _ _ (c .before .before .before .before .before .before .before .before .before .before .before .pre) _ (sym (c .before .before .before .before .before .before .before .before .before .read-signature-text .ensures o) ∙ c .before .before .before .before .before .before .before .place .given .1) _ _ (sym (c .before .before .refusal .given .1) ∙ c .before .before .before .before .parse-description .ensures) (c .refuse .ensures)
+returns-2 c =
+    let c-pre = c .before .before .before .before .before .before .before .before .before .before .before .pre in
+    let c-read-signature-text = c .before .before .before .before .before .before .before .before .before .read-signature-text in
+    let c-place = c .before .before .before .before .before .before .before .place in
+    let c-refusal = c .before .before .refusal in
+    let c-parse-description = c .before .before .before .before .parse-description in
+    let c-moved = c .moved in
+    λ o. spelt-refused o _ _ _ (c-pre) _ (sym (c-read-signature-text .ensures o) ∙ c-place .given .1) _ _ (sym (c-refusal .given .1) ∙ c-parse-description .ensures) (c-moved .ensures)
 
 returns-3 : tie.Need-returns-3
 returns-3 c = λ o. spelt-stop o _ _ _ (c .before .before .before .before .before .pre) _ (sym (c .before .before .before .read-signature-text .ensures o) ∙ c .before .refusal2 .given .1)
@@ -79,7 +92,7 @@ spelled-types-spec =
     parse-description-requires
     enum-known-n
     enum-known-refusal
-    refuse-requires
+    moved-requires
     enum-known-refusal-2
     returns
     returns-2

@@ -8,107 +8,162 @@ use borrow.Author.Needs.{needs}
 use Rattle.header.proofs.header_field.content.Statement.{statement}
 use Rattle.header.proofs.header_field.content.Tie as tie
 
-one-type-requires : tie.Need-one-type-requires
-one-type-requires c κs = search needs
-
-enum-known-first : tie.Need-enum-known-first
-enum-known-first c = search needs
-
-refuse-requires : tie.Need-refuse-requires
-refuse-requires c κs = search needs
-
-asked-requires : tie.Need-asked-requires
-asked-requires c κs = search needs
+add-stop : tie.Need-add-stop
+add-stop c =
+    let at = c .before .before in
+    let type = at .before .before in
+    let s = type .before .before in
+    let i = one-inside (s .args .order) _ _ _ _ _ _ (at .place .given .1) (type .one-type .ensures (s .args .order)) in
+    omega (arith, i .within, s .pre .held)
 
 shared-slice-read-if3 : tie.Need-shared-slice-read-if3
-shared-slice-read-if3 c = let i = one-inside (c .before .before .before .before .before .before .before .before .before .args .order) _ _ _ _ _ _ (c .before .before .before .before .before .first .given .1) (c .before .before .before .before .before .before .before .one-type .ensures (c .before .before .before .before .before .before .before .before .before .args .order)) in
-    omega (arith, i .within, i .forward, some _ _ _ _ _ _ i, c .before .before .before .before .before .before .before .before .before .pre .held)
+shared-slice-read-if3 c =
+    let at = c .before .before .before .before .before .before in
+    let type = at .before .before in
+    let s = type .before .before in
+    let i = one-inside (s .args .order) _ _ _ _ _ _ (at .place .given .1) (type .one-type .ensures (s .args .order)) in
+    omega (arith, i .within, i .forward, some _ _ _ _ _ _ i, s .pre .held)
 
 add-known : tie.Need-add-known
-add-known c = let i = one-inside (c .before .before .before .before .before .before .before .before .before .before .args .order) _ _ _ _ _ _ (c .before .before .before .before .before .before .first .given .1) (c .before .before .before .before .before .before .before .before .one-type .ensures (c .before .before .before .before .before .before .before .before .before .before .args .order)) in
-    omega (arith, i .within, c .before .before .before .before .before .before .before .before .before .before .pre .held)
+add-known c =
+    let at = c .before .before .before .before .before .before .before in
+    let type = at .before .before in
+    let s = type .before .before in
+    let i = one-inside (s .args .order) _ _ _ _ _ _ (at .place .given .1) (type .one-type .ensures (s .args .order)) in
+    omega (arith, i .within, s .pre .held)
 
 known-requires : tie.Need-known-requires
-known-requires c κs = let i = one-inside (c .before .before .before .before .before .before .before .before .before .before .args .order) _ _ _ _ _ _ (c .before .before .before .before .before .before .first .given .1) (c .before .before .before .before .before .before .before .before .one-type .ensures (c .before .before .before .before .before .before .before .before .before .before .args .order)) in
-    (known-code _ _ (c .before .before .before .before .if1 .left) (c .before .before .before .if2 .taken) (c .before .before .asked .ensures), record { inside = omega (arith, i .within); held = c .before .before .before .before .before .before .before .before .before .before .pre .held })
+known-requires c κs =
+    let asks = c .before .before in
+    let low = asks .before in
+    let some = low .before in
+    let at = some .before .before .before in
+    let type = at .before .before in
+    let s = type .before .before in
+    let i = one-inside (s .args .order) _ _ _ _ _ _ (at .place .given .1) (type .one-type .ensures (s .args .order)) in
+    (known-code _ _ (some .if1 .left) (low .if2 .taken) (asks .asked .ensures), record { inside = omega (arith, i .within); held = s .pre .held })
 
-refuse-requires-2 : tie.Need-refuse-requires-2
-refuse-requires-2 c κs = search needs
-
-sub-value : tie.Need-sub-value
-sub-value c = let i = one-inside (c .before .before .before .before .before .before .before .args .order) _ _ _ _ _ _ (c .before .before .before .first .given .1) (c .before .before .before .before .before .one-type .ensures (c .before .before .before .before .before .before .before .args .order)) in
-    omega (arith, i .forward)
-
-part-value-start : tie.Need-part-value-start
-part-value-start c = let i = one-inside (c .before .before .before .before .before .before .before .args .order) _ _ _ _ _ _ (c .before .before .before .first .given .1) (c .before .before .before .before .before .one-type .ensures (c .before .before .before .before .before .before .before .args .order)) in
-    omega (arith, i .forward, i .within, c .before .before .before .before .before .before .before .pre .held)
+part-value : tie.Need-part-value-start
+part-value c =
+    let at = c .before .before .before .before in
+    let type = at .before .before in
+    let s = type .before .before in
+    let i = one-inside (s .args .order) _ _ _ _ _ _ (at .place .given .1) (type .one-type .ensures (s .args .order)) in
+    omega (arith, i .forward, i .within, s .pre .held)
 
 part-value-end : tie.Need-part-value-end
-part-value-end c = let i = one-inside (c .before .before .before .before .before .before .before .args .order) _ _ _ _ _ _ (c .before .before .before .first .given .1) (c .before .before .before .before .before .one-type .ensures (c .before .before .before .before .before .before .before .args .order)) in
-    omega (arith, i .forward, i .within, c .before .before .before .before .before .before .before .pre .held)
+part-value-end c =
+    let at = c .before .before .before .before in
+    let type = at .before .before in
+    let s = type .before .before in
+    let i = one-inside (s .args .order) _ _ _ _ _ _ (at .place .given .1) (type .one-type .ensures (s .args .order)) in
+    omega (arith, i .forward, i .within, s .pre .held)
 
 add-value : tie.Need-add-value
-add-value c = let i = one-inside (c .before .before .before .before .before .before .before .before .args .order) _ _ _ _ _ _ (c .before .before .before .before .first .given .1) (c .before .before .before .before .before .before .one-type .ensures (c .before .before .before .before .before .before .before .before .args .order)) in
-    omega (arith, i .within, c .before .before .before .before .before .before .before .before .pre .held)
+add-value c =
+    let at = c .before .before .before .before in
+    let type = at .before .before in
+    let s = type .before .before in
+    let i = one-inside (s .args .order) _ _ _ _ _ _ (at .place .given .1) (type .one-type .ensures (s .args .order)) in
+    omega (arith, i .within, s .pre .held)
 
 value-requires : tie.Need-value-requires
-value-requires c κs = let i = one-inside (c .before .before .before .before .before .before .before .before .args .order) _ _ _ _ _ _ (c .before .before .before .before .first .given .1) (c .before .before .before .before .before .before .one-type .ensures (c .before .before .before .before .before .before .before .before .args .order)) in
-    (typed _ _ _ _ _ _ i, record { inside = omega (arith, i .within); held = c .before .before .before .before .before .before .before .before .pre .held })
-
-enum-known-next : tie.Need-enum-known-next
-enum-known-next c = search needs
-
-enum-known-refusal : tie.Need-enum-known-refusal
-enum-known-refusal c = search needs
-
-enum-known-refusal-2 : tie.Need-enum-known-refusal-2
-enum-known-refusal-2 c = search needs
+value-requires c κs =
+    let at = c .before .before .before .before .before in
+    let type = at .before .before in
+    let s = type .before .before in
+    let i = one-inside (s .args .order) _ _ _ _ _ _ (at .place .given .1) (type .one-type .ensures (s .args .order)) in
+    (typed _ _ _ _ _ _ i, record { inside = omega (arith, i .within); held = s .pre .held })
 
 returns : tie.Need-returns
-returns c = let i = one-inside (c .before .before .before .before .before .before .before .args .order) _ _ _ _ _ _ (c .before .before .before .first .given .1) (c .before .before .before .before .before .one-type .ensures (c .before .before .before .before .before .before .before .args .order)) in
+returns c =
+    let at = c .before .before .before .before in
+    let type = at .before .before in
+    let s = type .before .before in
+    let i = one-inside (s .args .order) _ _ _ _ _ _ (at .place .given .1) (type .one-type .ensures (s .args .order)) in
     content-zero _ _ _ _ _ _ (i .reads) _ (ap wants (c .before .if1 .taken) ∙ none-asks) (c .refuse .ensures)
 
 returns-2 : tie.Need-returns-2
-returns-2 c = let i = one-inside (c .before .before .before .before .before .before .before .before .before .before .before .args .order) _ _ _ _ _ _ (c .before .before .before .before .before .before .before .first .given .1) (c .before .before .before .before .before .before .before .before .before .one-type .ensures (c .before .before .before .before .before .before .before .before .before .before .before .args .order)) in
-    let k = known-code _ _ (c .before .before .before .before .before .if1 .left) (c .before .before .before .before .if2 .taken) (c .before .before .before .asked .ensures) in
-    content-known _ _ _ _ _ _ (i .reads) (k .of) _ (k .asks) (right-type _ _ _ _ _ _ i (k .of) _ (k .is) (c .before .if3 .taken)) (c .known .ensures (k .of) (k .asks))
+returns-2 c =
+    let right = c .before in
+    let asks = right .before .before in
+    let low = asks .before in
+    let some = low .before in
+    let at = some .before .before .before in
+    let type = at .before .before in
+    let s = type .before .before in
+    let i = one-inside (s .args .order) _ _ _ _ _ _ (at .place .given .1) (type .one-type .ensures (s .args .order)) in
+    let k = known-code _ _ (some .if1 .left) (low .if2 .taken) (asks .asked .ensures) in
+    let ty = right-type _ _ _ _ _ _ i (k .of) _ (k .is) (right .if3 .taken) in
+    content-known _ _ _ _ _ _ (i .reads) (k .of) _ (k .asks) ty (c .known .ensures (k .of) (k .asks))
 
 returns-3 : tie.Need-returns-3
-returns-3 c = let i = one-inside (c .before .before .before .before .before .before .before .before .before .before .before .args .order) _ _ _ _ _ _ (c .before .before .before .before .before .before .before .first .given .1) (c .before .before .before .before .before .before .before .before .before .one-type .ensures (c .before .before .before .before .before .before .before .before .before .before .before .args .order)) in
-    let k = known-code _ _ (c .before .before .before .before .before .if1 .left) (c .before .before .before .before .if2 .taken) (c .before .before .before .asked .ensures) in
-    content-wrong _ _ _ _ _ _ (i .reads) (k .of) _ (k .asks) (wrong-type _ _ _ _ _ _ i (k .of) _ (kept _ (k .of) (k .asks)) (k .is) (c .before .if3 .left)) (c .refuse2 .ensures)
+returns-3 c =
+    let wrong = c .before in
+    let asks = wrong .before .before in
+    let low = asks .before in
+    let some = low .before in
+    let at = some .before .before .before in
+    let type = at .before .before in
+    let s = type .before .before in
+    let i = one-inside (s .args .order) _ _ _ _ _ _ (at .place .given .1) (type .one-type .ensures (s .args .order)) in
+    let k = known-code _ _ (some .if1 .left) (low .if2 .taken) (asks .asked .ensures) in
+    let ty = wrong-type _ _ _ _ _ _ i (k .of) _ (kept _ (k .of) (k .asks)) (k .is) (wrong .if3 .left) in
+    content-wrong _ _ _ _ _ _ (i .reads) (k .of) _ (k .asks) ty (c .refuse2 .ensures)
 
 returns-4 : tie.Need-returns-4
-returns-4 c = let i = one-inside (c .before .before .before .before .before .before .before .before .before .before .before .before .args .order) _ _ _ _ _ _ (c .before .before .before .before .before .before .before .before .first .given .1) (c .before .before .before .before .before .before .before .before .before .before .one-type .ensures (c .before .before .before .before .before .before .before .before .before .before .before .before .args .order)) in
-    content-past _ _ _ _ _ _ (i .reads) (other-asks _ (c .before .before .before .before .before .if2 .left)) _ _ (c .before .before .before .value .ensures (i .ty) _ (i .stands)) _ _ (c .before .next .given .1)
+returns-4 c =
+    let past = c .before .before in
+    let walk = past .before .before in
+    let high = walk .before .before in
+    let at = high .before .before .before .before in
+    let type = at .before .before in
+    let s = type .before .before in
+    let i = one-inside (s .args .order) _ _ _ _ _ _ (at .place .given .1) (type .one-type .ensures (s .args .order)) in
+    let walks = walk .value .ensures (i .ty) _ (i .stands) in
+    c .kept .ensures ∙ content-past _ _ _ _ _ _ (i .reads) (other-asks _ (high .if2 .left)) _ _ walks _ (past .past .given .1)
 
 returns-5 : tie.Need-returns-5
-returns-5 c = let i = one-inside (c .before .before .before .before .before .before .before .before .before .before .before .before .args .order) _ _ _ _ _ _ (c .before .before .before .before .before .before .before .before .first .given .1) (c .before .before .before .before .before .before .before .before .before .before .one-type .ensures (c .before .before .before .before .before .before .before .before .before .before .before .before .args .order)) in
-    content-stop _ _ _ _ _ _ (i .reads) (other-asks _ (c .before .before .before .before .before .if2 .left)) _ _ (c .before .before .before .value .ensures (i .ty) _ (i .stands)) _ (c .before .refusal .given .1)
+returns-5 c =
+    let stop = c .before in
+    let walk = stop .before .before in
+    let high = walk .before .before in
+    let at = high .before .before .before .before in
+    let type = at .before .before in
+    let s = type .before .before in
+    let i = one-inside (s .args .order) _ _ _ _ _ _ (at .place .given .1) (type .one-type .ensures (s .args .order)) in
+    let walks = walk .value .ensures (i .ty) _ (i .stands) in
+    content-stop _ _ _ _ _ _ (i .reads) (other-asks _ (high .if2 .left)) _ _ walks _ (stop .refusal .given .1)
 
 returns-6 : tie.Need-returns-6
-returns-6 c = content-shut _ _ _ _ _ (one-shut (c .before .before .before .before .before .args .order) _ _ _ _ _ (c .before .refusal2 .given .1) (c .before .before .before .one-type .ensures (c .before .before .before .before .before .args .order)))
+returns-6 c =
+    let stop = c .before in
+    let type = stop .before .before in
+    let o = type .before .before .args .order in
+    content-shut _ _ _ _ _ (one-shut o _ _ _ _ _ (stop .refusal2 .given .1) (type .one-type .ensures o))
 
 pub content-spec : {M : Type 1} → statement M
 content-spec =
     tie.close
     (tie.spec
-    one-type-requires
-    enum-known-first
-    refuse-requires
-    asked-requires
+    (λ c κs. search needs)
+    (λ c. search needs)
+    add-stop
+    (λ c κs. search needs)
+    (λ c κs. search needs)
     shared-slice-read-if3
     add-known
     known-requires
-    refuse-requires-2
-    sub-value
-    part-value-start
-    part-value-end
+    (λ c κs. search needs)
     add-value
+    part-value
+    part-value
+    part-value-end
     value-requires
-    enum-known-next
-    enum-known-refusal
-    enum-known-refusal-2
+    (λ c. search needs)
+    (λ c κs. search needs)
+    (λ c. search needs)
+    (λ c. search needs)
     returns
     returns-2
     returns-3

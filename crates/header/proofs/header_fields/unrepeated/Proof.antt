@@ -29,7 +29,10 @@ element-copy-out-if1 c = search needs
 
 returns : tie.Need-returns Inv-loop μ-loop
 unfolding once
-returns c = sym (one-known (λ k. leb (getD (c .before .before .before .before .args .counts .now) k 0) 1) (c .before .before .before .loop .c) (c .before .before .before .loop .inv .0) (c .before .before .loop-test .taken) (leb-false _ _ (c .if1 .taken)))
+returns c =
+    let turn = c .before .before .before in
+    let counts = turn .before .args .counts .now in
+    sym (one-known (λ k. leb (getD counts k 0) 1) (turn .loop .c) (turn .loop .inv .0) (c .before .before .loop-test .taken) (leb-false _ _ (c .if1 .taken)))
 
 add-c : tie.Need-add-c Inv-loop μ-loop
 add-c c = search needs
@@ -38,7 +41,10 @@ loop-less : tie.Need-loop-less Inv-loop μ-loop
 loop-less c = search needs
 
 loop-again : tie.Need-loop-again Inv-loop μ-loop
-loop-again c = (omega arith, omega arith, one-more (λ k. leb (getD (c .before .before .before .before .args .counts .now) k 0) 1) _ (c .before .before .before .loop .inv .2) (leb-true _ _ (c .if1 .left)))
+loop-again c =
+    let turn = c .before .before .before in
+    let counts = turn .before .args .counts .now in
+    (omega arith, omega arith, one-more (λ k. leb (getD counts k 0) 1) _ (turn .loop .inv .2) (leb-true _ _ (c .if1 .left)))
 
 returns-2 : tie.Need-returns-2 Inv-loop μ-loop
 unfolding once

@@ -1,13 +1,11 @@
 -- Nine fields.
 use Prim.Native.Nat.{_-_, _≤_}
-use mathlib.Core.Path.{_≡_}
-use lib.ListN.{length}
 use borrow.Author.Needs.{needs}
 use Rattle.inspect.proofs.says.fields.Statement.{statement}
 use Rattle.inspect.proofs.says.fields.Tie as tie
 
 abbrev Inv-loop : tie.InvT-loop
-Inv-loop out₀ at message all behind₀ code₀ out behind code = (code ≤ 10) × (length out ≡ length out₀)
+Inv-loop out₀ at message all behind₀ code₀ out behind code = code ≤ 10
 
 abbrev μ-loop : tie.MeasureT-loop
 μ-loop out₀ at message all behind₀ code₀ out behind code = 10 - code
@@ -15,4 +13,5 @@ abbrev μ-loop : tie.MeasureT-loop
 pub fields-spec : {M : Type 1} → statement M
 fields-spec =
     tie.close
-    (tie.spec Inv-loop μ-loop (λ c. search needs) (λ c κs. search needs) (λ c κs. search needs) (λ c. search needs) (λ c. search needs) (λ c. search needs) (λ c. search needs) (λ c. search needs))
+    (tie.spec Inv-loop μ-loop (λ c. search needs) (λ c κs. search needs) (λ c κs. search needs) (λ c. search needs) (λ c. search needs)
+    (λ c. search needs) (λ c. search needs))

@@ -19,14 +19,24 @@ part-is-path-end : tie.Need-part-is-path-end
 part-is-path-end c = let k = cut _ _ _ _ (c .before .before .before .before .before .pre) _ (sym (c .before .place .given .1) ∙ c .before .before .before .read-string .ensures) in search needs
 
 returns : tie.Need-returns
-returns c = is-a-path _ _ _ _ (c .before .before .before .before .before .before .before .before .pre) _ (cut _ _ _ _ (c .before .before .before .before .before .before .before .before .pre) _ (sym (c .before .before .before .before .place .given .1) ∙ c .before .before .before .before .before .before .read-string .ensures)) (sym (c .if1 .taken) ∙ c .before .is-path .ensures)
+returns c =
+    let asked = c .before .before .before .before .before .before .before .before .pre in
+    let read-string = c .before .before .before .before .before .before .read-string in
+    let place = c .before .before .before .before .place in
+    is-a-path _ _ _ _ asked _ (cut _ _ _ _ asked _ (sym (place .given .1) ∙ read-string .ensures)) (sym (c .if1 .taken) ∙ c .before .is-path .ensures)
 
 returns-2 : tie.Need-returns-2
-returns-2 c = no-path _ _ _ _ (c .before .before .before .before .before .before .before .before .before .pre) _ (cut _ _ _ _ (c .before .before .before .before .before .before .before .before .before .pre) _ (sym (c .before .before .before .before .before .place .given .1) ∙ c .before .before .before .before .before .before .before .read-string .ensures)) (sym (c .before .if1 .left) ∙ c .before .before .is-path .ensures) _ (c .refuse .ensures)
+returns-2 c =
+    let asked = c .before .before .before .before .before .before .before .before .before .pre in
+    let read-string = c .before .before .before .before .before .before .before .read-string in
+    let place = c .before .before .before .before .before .place in
+    no-path _ _ _ _ asked _ (cut _ _ _ _ asked _ (sym (place .given .1) ∙ read-string .ensures))
+    (sym (c .before .if1 .left) ∙ c .before .before .is-path .ensures) _ (c .refuse .ensures)
 
 returns-3 : tie.Need-returns-3
 returns-3 c = no-string _ _ _ _ (c .before .before .before .before .before .pre) _ (sym (c .before .refusal .given .1) ∙ c .before .before .before .read-string .ensures)
 
 pub read-path-spec : {M : Type 1} → statement M
 read-path-spec =
-    tie.close (tie.spec (λ c κs. search needs) (λ c. search needs) (λ c. search needs) sub-stop sub-is-path part-is-path-start part-is-path-end (λ c κs. search needs) (λ c κs. search needs) (λ c. search needs) returns returns-2 returns-3)
+    tie.close (tie.spec (λ c κs. search needs) (λ c. search needs) (λ c. search needs) sub-stop sub-is-path part-is-path-start part-is-path-end
+    (λ c κs. search needs) (λ c κs. search needs) (λ c. search needs) returns returns-2 returns-3)

@@ -23,5 +23,4 @@ returns-2 c =
     λ o. c .sized .ensures o (single o (a .buf .now) (a .off) (getD (a .buf .now) (a .off) 0) (omega arith) refl (omega (arith, c .before .shared-slice-known2 .given (a .off))) .is)
 
 pub read-signature-text-spec : {M : Type 1} → statement M
-read-signature-text-spec =
-    tie.close (tie.spec (λ c κs. search needs) returns (λ c. search needs) cast-len (λ c κs. search needs) returns-2)
+read-signature-text-spec = tie.close (tie.spec (λ c κs. search needs) returns (λ c. search needs) cast-len (λ c κs. search needs) returns-2)

@@ -14,5 +14,4 @@ unfolding readText
 returns-2 c = c .sized .ensures _ (c .before .load32 .ensures .is)
 
 pub read-string-spec : {M : Type 1} → statement M
-read-string-spec =
-    tie.close (tie.spec (λ c. search needs) (λ c κs. search needs) returns (λ c κs. search needs) (λ c κs. search needs) returns-2)
+read-string-spec = tie.close (tie.spec (λ c. search needs) (λ c κs. search needs) returns (λ c κs. search needs) (λ c κs. search needs) returns-2)

@@ -13,11 +13,13 @@ returns : tie.Need-returns
 returns c = λ o. ap Refused (c .refuse .ensures) ∙ entry-outside (readSig o) _ _ (c .before .if1 .taken)
 
 taken-from-requires : tie.Need-taken-from-requires
-taken-from-requires c κs = entry-past (readSig Little) (readSig-local Little .bound) (c .before .before .before .args .buf .now) (c .before .before .before .args .offset .0) _ (c .before .if1 .left) (c .read-signature-text .ensures Little)
+taken-from-requires c κs =
+    let a = c .before .before .before .args in
+    entry-past (readSig Little) (readSig-local Little .bound) (a .buf .now) (a .offset .0) _ (c .before .if1 .left)
+    (c .read-signature-text .ensures Little)
 
 returns-2 : tie.Need-returns-2
 returns-2 c = λ o. c .taken-from .ensures ∙ entry-is (readSig o) _ _ _ (c .before .before .if1 .left) (c .before .read-signature-text .ensures o)
 
 pub unmarshal-signature-text-spec : {M : Type 1} → statement M
-unmarshal-signature-text-spec =
-    tie.close (tie.spec (λ c κs. search needs) returns (λ c κs. search needs) taken-from-requires returns-2)
+unmarshal-signature-text-spec = tie.close (tie.spec (λ c κs. search needs) returns (λ c κs. search needs) taken-from-requires returns-2)

@@ -8,15 +8,14 @@ use borrow.Author.Needs.{needs}
 use Rattle.text.proofs.strings.unmarshal_str.Statement.{statement}
 use Rattle.text.proofs.strings.unmarshal_str.Tie as tie
 
-returns : tie.Need-returns
-returns c = ap Refused (c .refuse .ensures) ∙ entry-outside (readText (c .before .before .before .args .order)) _ _ (c .before .if1 .taken)
-
 taken-from-requires : tie.Need-taken-from-requires
-taken-from-requires c κs = entry-past (readText (c .before .before .before .args .order)) (readText-local (c .before .before .before .args .order) .bound) (c .before .before .before .args .buf .now) (c .before .before .before .args .offset .0) _ (c .before .if1 .left) (c .read-string .ensures)
-
-returns-2 : tie.Need-returns-2
-returns-2 c = c .taken-from .ensures ∙ entry-is (readText (c .before .before .before .before .args .order)) _ _ _ (c .before .before .if1 .left) (c .before .read-string .ensures)
+taken-from-requires c κs =
+    let a = c .before .before .before .args in
+    entry-past (readText (a .order)) (readText-local (a .order) .bound) (a .buf .now) (a .offset .0) _ (c .before .if1 .left) (c .read-string .ensures)
 
 pub unmarshal-str-spec : {M : Type 1} → statement M
 unmarshal-str-spec =
-    tie.close (tie.spec (λ c κs. search needs) returns (λ c κs. search needs) taken-from-requires returns-2)
+    tie.close (tie.spec (λ c κs. search needs)
+    (λ c. ap Refused (c .refuse .ensures) ∙ entry-outside (readText (c .before .before .before .args .order)) _ _ (c .before .if1 .taken))
+    (λ c κs. search needs) taken-from-requires
+    (λ c. c .taken-from .ensures ∙ entry-is (readText (c .before .before .before .before .args .order)) _ _ _ (c .before .before .if1 .left) (c .before .read-string .ensures)))

@@ -10,5 +10,4 @@ returns : tie.Need-returns
 returns c = halves Big 4 _ _ _ _ (omega arith) (c .big322 .ensures) (c .before .big32 .ensures)
 
 pub big64-spec : {M : Type 1} → statement M
-big64-spec =
-    tie.close (tie.spec (λ c. search needs) (λ c κs. search needs) (λ c κs. search needs) (λ c. search needs) (λ c. search needs) returns)
+big64-spec = tie.close (tie.spec (λ c. search needs) (λ c κs. search needs) (λ c κs. search needs) (λ c. search needs) (λ c. search needs) returns)

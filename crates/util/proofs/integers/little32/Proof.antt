@@ -10,5 +10,4 @@ returns : tie.Need-returns
 returns c = halves Little 2 _ _ _ _ (omega arith) (c .before .little16 .ensures) (c .little162 .ensures)
 
 pub little32-spec : {M : Type 1} → statement M
-little32-spec =
-    tie.close (tie.spec (λ c κs. search needs) (λ c. search needs) (λ c κs. search needs) (λ c. search needs) (λ c. search needs) returns)
+little32-spec = tie.close (tie.spec (λ c κs. search needs) (λ c. search needs) (λ c κs. search needs) (λ c. search needs) (λ c. search needs) returns)

@@ -10,5 +10,4 @@ returns : tie.Need-returns
 returns c = halves Little 4 _ _ _ _ (omega arith) (c .before .little32 .ensures) (c .little322 .ensures)
 
 pub little64-spec : {M : Type 1} → statement M
-little64-spec =
-    tie.close (tie.spec (λ c κs. search needs) (λ c. search needs) (λ c κs. search needs) (λ c. search needs) (λ c. search needs) returns)
+little64-spec = tie.close (tie.spec (λ c κs. search needs) (λ c. search needs) (λ c κs. search needs) (λ c. search needs) (λ c. search needs) returns)

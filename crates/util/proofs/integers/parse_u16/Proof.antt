@@ -7,6 +7,4 @@ returns : tie.Need-returns
 returns c = c .parse .ensures
 
 pub parse-u16-spec : {M : Type 1} → statement M
-parse-u16-spec =
-    tie.close
-    (tie.spec (λ c. search needs) returns)
+parse-u16-spec = tie.close (tie.spec (λ c. search needs) returns)

@@ -35,22 +35,31 @@ sub-if2 c =
 refuse-requires-2 : tie.Need-refuse-requires-2
 refuse-requires-2 c κs = search needs
 
-add-t20 : tie.Need-add-t20
-add-t20 c = search needs
-
 enum-known-refusal : tie.Need-enum-known-refusal
 enum-known-refusal c = search needs
 
 returns-2 : tie.Need-returns-2
-returns-2 c = lying-late _ _ _ _ _ (length-take-le _ _ (c .before .before .before .before .before .before .before .before .pre .0 .held)) (omega arith) _ (sym (c .before .before .before .before .before .padded .ensures) ∙ c .before .before .before .place .given .1) _ (omega arith) (c .refuse2 .ensures)
+returns-2 c =
+    let c-pre = c .before .before .before .before .before .before .before .before .pre in
+    let c-padded = c .before .before .before .before .before .padded in
+    let c-place = c .before .before .before .place in
+    let c-refuse2 = c .refuse2 in
+    lying-late _ _ _ _ _ (length-take-le _ _ (c-pre .0 .held)) (omega arith) _ (sym (c-padded .ensures) ∙ c-place .given .1) _ (omega arith) (c-refuse2 .ensures)
 
 returns-3 : tie.Need-returns-3
 returns-3 c =
-    let r = padded-within _ _ _ _ _ _ (c .before .before .before .before .before .before .before .pre .0) (c .before .before .before .before .padded .ensures) (c .before .before .place .given .1) in
-    lying-inside _ _ _ _ _ (length-take-le _ _ (c .before .before .before .before .before .before .before .pre .0 .held)) (omega arith) _ (sym (c .before .before .before .before .padded .ensures) ∙ c .before .before .place .given .1) (omega arith)
+    let c-pre = c .before .before .before .before .before .before .before .pre in
+    let c-padded = c .before .before .before .before .padded in
+    let c-place = c .before .before .place in
+    let r = padded-within _ _ _ _ _ _ (c-pre .0) (c-padded .ensures) (c-place .given .1) in
+    lying-inside _ _ _ _ _ (length-take-le _ _ (c-pre .0 .held)) (omega arith) _ (sym (c-padded .ensures) ∙ c-place .given .1) (omega arith)
 
 returns-4 : tie.Need-returns-4
-returns-4 c = lying-stop _ _ _ _ _ (length-take-le _ _ (c .before .before .before .before .before .before .pre .0 .held)) (omega arith) _ (sym (c .before .before .before .padded .ensures) ∙ c .before .refusal .given .1)
+returns-4 c =
+    let c-pre = c .before .before .before .before .before .before .pre in
+    let c-padded = c .before .before .before .padded in
+    let c-refusal = c .before .refusal in
+    lying-stop _ _ _ _ _ (length-take-le _ _ (c-pre .0 .held)) (omega arith) _ (sym (c-padded .ensures) ∙ c-refusal .given .1)
 
 pub contents-spec : {M : Type 1} → statement M
 contents-spec =
@@ -63,7 +72,6 @@ contents-spec =
     enum-known-place
     sub-if2
     refuse-requires-2
-    add-t20
     enum-known-refusal
     returns-2
     returns-3

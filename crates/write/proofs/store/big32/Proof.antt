@@ -9,5 +9,4 @@ returns : tie.Need-returns
 returns c = halves Big 2 _ _ _ _ _ (c .before .before .before .before .before .before .big16 .ensures) (c .before .before .big162 .ensures)
 
 pub big32-spec : {M : Type 1} → statement M
-big32-spec =
-    tie.close (tie.spec (λ c κs. search needs) (λ c. search needs) (λ c κs. search needs) (λ c. search needs) returns)
+big32-spec = tie.close (tie.spec (λ c κs. search needs) (λ c. search needs) (λ c κs. search needs) (λ c. search needs) returns)

@@ -9,5 +9,4 @@ returns : tie.Need-returns
 returns c = halves Big 4 _ _ _ _ _ (c .before .before .before .before .before .before .big32 .ensures) (c .before .before .big322 .ensures)
 
 pub big64-spec : {M : Type 1} → statement M
-big64-spec =
-    tie.close (tie.spec (λ c κs. search needs) (λ c. search needs) (λ c κs. search needs) (λ c. search needs) returns)
+big64-spec = tie.close (tie.spec (λ c κs. search needs) (λ c. search needs) (λ c κs. search needs) (λ c. search needs) returns)

@@ -9,5 +9,4 @@ returns : tie.Need-returns
 returns c = halves Little 2 _ _ _ _ _ (c .before .before .before .before .before .before .little16 .ensures) (c .before .before .little162 .ensures)
 
 pub little32-spec : {M : Type 1} → statement M
-little32-spec =
-    tie.close (tie.spec (λ c κs. search needs) (λ c. search needs) (λ c κs. search needs) (λ c. search needs) returns)
+little32-spec = tie.close (tie.spec (λ c κs. search needs) (λ c. search needs) (λ c κs. search needs) (λ c. search needs) returns)

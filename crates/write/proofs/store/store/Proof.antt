@@ -28,8 +28,15 @@ returns-6 : tie.Need-returns-6
 returns-6 c = rw (c .before .before .before .before .before .before .if3 .taken, c .before .before .before .before .enum-told6 .given .1) (c .before .before .big16 .ensures)
 
 returns-7 : tie.Need-returns-7
-returns-7 c = rw (is-one _ (c .before .before .before .before .before .pre .1) (c .before .before .before .if1 .left) (c .before .before .if2 .left) (c .before .if3 .left), c .low .ensures) (single-byte _ _ _ _)
+returns-7 c =
+    let asked = c .before .before .before .before .before .pre in
+    let if1 = c .before .before .before .if1 in
+    rw (is-one _ (asked .1) (if1 .left) (c .before .before .if2 .left) (c .before .if3 .left), c .low .ensures) (single-byte _ _ _ _)
 
 pub store-spec : {M : Type 1} → statement M
 store-spec =
-    tie.close (tie.spec (λ c. search needs) (λ c κs. search needs) (λ c. search needs) (λ c κs. search needs) (λ c. search needs) (λ c κs. search needs) (λ c. search needs) (λ c κs. search needs) (λ c. search needs) (λ c κs. search needs) (λ c. search needs) (λ c κs. search needs) (λ c κs. search needs) slice-write-buf (λ c. search needs) returns (λ c. search needs) returns-2 (λ c. search needs) returns-3 (λ c. search needs) returns-4 (λ c. search needs) returns-5 (λ c. search needs) returns-6 (λ c. search needs) returns-7)
+    tie.close (tie.spec (λ c. search needs) (λ c κs. search needs) (λ c. search needs) (λ c κs. search needs) (λ c. search needs)
+    (λ c κs. search needs) (λ c. search needs) (λ c κs. search needs) (λ c. search needs) (λ c κs. search needs) (λ c. search needs)
+    (λ c κs. search needs) (λ c κs. search needs) slice-write-buf (λ c. search needs) returns (λ c. search needs) returns-2
+    (λ c. search needs) returns-3 (λ c. search needs) returns-4 (λ c. search needs) returns-5 (λ c. search needs) returns-6
+    (λ c. search needs) returns-7)

@@ -1,7 +1,11 @@
 -- The tests are those of `writeAt` and `signatureBytes`, in their order; one byte of length is the same in either order.
 use native.Mathlib.Omega.{arith}
-use mathlib.Core.Path.{sym, _∙_}
-use Rattle.meaning.specs.Writers.{signatureBytes}
+use Prim.Native.Nat.{ℕ}
+use mathlib.Core.Path.{_≡_, ap, sym, _∙_}
+use Rattle.meaning.specs.declared.Order.{Order}
+use Rattle.meaning.specs.declared.Fault.{Fault}
+use Rattle.meaning.specs.Faults.{refusal, moved}
+use Rattle.meaning.specs.Writers.{faulty, signatureBytes}
 use Rattle.write.proofs.texts.Contents.{signature-small, is-signature, not-signature}
 use Rattle.write.proofs.store.Writes.{outside, is-faulty, is-bytes}
 use borrow.Author.Needs.{needs}
@@ -30,9 +34,12 @@ returns-2 c =
 returns-3 : tie.Need-returns-3
 returns-3 c =
     let s = c .before .before .before .before .before .before .before .before .args .val .now in
-    let e = sym (c .before .before .refusal .given .1) ∙ c .before .before .before .before .parse-description .ensures in (
-      λ o. is-faulty (signatureBytes o s) _ _ (c .before .before .before .before .before .if1 .left) _ (not-signature o s _ e) _ (c .refuse2 .ensures) .0,
-      λ o. is-faulty (signatureBytes o s) _ _ (c .before .before .before .before .before .if1 .left) _ (not-signature o s _ e) _ (c .refuse2 .ensures) .1,
+    let at : ℕ = c .before .before .before .before .before .before .before .before .args .place .0 in
+    let inside = c .before .before .before .before .before .if1 .left in
+    let e = sym (c .before .before .refusal .given .1) ∙ c .before .before .before .before .parse-description .ensures in
+    let bad : (o : Order) → (k : Fault) × (signatureBytes o s ≡ faulty k) × (_ ≡ refusal k 0) = λ o. not-signature o s _ e in (
+      λ o. is-faulty (signatureBytes o s) _ _ inside _ (bad o .1) _ (c .moved .ensures ∙ ap (moved at) (bad o .2)) .0,
+      λ o. is-faulty (signatureBytes o s) _ _ inside _ (bad o .1) _ (c .moved .ensures ∙ ap (moved at) (bad o .2)) .1,
     )
 
 pub write-signature-spec : {M : Type 1} → statement M
