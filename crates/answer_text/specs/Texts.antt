@@ -4,11 +4,11 @@ use mathlib.Core.List.{List, [], _∷_, _++_}
 use Rattle.meaning.specs.Faults.{numberOf}
 use Rattle.meaning.specs.declared.Refusal.{Refusal}
 use Rattle.meaning.specs.declared.Checked.{Checked}
-use Rattle.meaning.specs.declared.Checked.the-variants.{Accepted, Refused as Unchecked}
+use Rattle.meaning.specs.declared.Checked.the-variants as checked
 use Rattle.meaning.specs.declared.Counted.{Counted}
-use Rattle.meaning.specs.declared.Counted.the-variants.{Types, Refused as Uncounted}
+use Rattle.meaning.specs.declared.Counted.the-variants as counted
 use Rattle.meaning.specs.declared.Written.{Written}
-use Rattle.meaning.specs.declared.Written.the-variants.{Done, Refused as Unwritten}
+use Rattle.meaning.specs.declared.Written.the-variants as written
 use Rattle.text_out.specs.Digits.{bytesText, decimal}
 
 -- bad
@@ -24,20 +24,20 @@ abbrev pub refusedTexts : Refusal → List (List ℕ)
 refusedTexts r = (110 ∷ 111 ∷ 32 ∷ []) ∷ decimal (r .place .0) ∷ (32 ∷ []) ∷ decimal (numberOf (r .fault)) ∷ []
 
 abbrev pub checkedTexts : Checked → List (List ℕ)
-checkedTexts (Accepted n) = okTexts (n .0)
-checkedTexts (Unchecked r) = refusedTexts r
+checkedTexts (checked.Accepted n) = okTexts (n .0)
+checkedTexts (checked.Refused r) = refusedTexts r
 
 abbrev pub countedTexts : Counted → List (List ℕ)
-countedTexts (Types n) = okTexts n
-countedTexts (Uncounted r) = refusedTexts r
+countedTexts (counted.Types n) = okTexts n
+countedTexts (counted.Refused r) = refusedTexts r
 
 -- a buffer's bytes behind a space
 abbrev pub bufferTexts : List ℕ → List (List ℕ)
 bufferTexts b = (32 ∷ []) ∷ bytesText b ∷ []
 
 abbrev pub writtenTexts : Written → List ℕ → List (List ℕ)
-writtenTexts (Done p) b = okTexts (p .0) ++ bufferTexts b
-writtenTexts (Unwritten r) b = refusedTexts r ++ bufferTexts b
+writtenTexts (written.Done p) b = okTexts (p .0) ++ bufferTexts b
+writtenTexts (written.Refused r) b = refusedTexts r ++ bufferTexts b
 
 -- text BYTES
 abbrev pub textTexts : List ℕ → List (List ℕ)

@@ -4,22 +4,28 @@ use mathlib.Core.List.{List}
 use lib.ListN.{length}
 use Rattle.meaning.specs.declared.Order.{Order}
 use Rattle.meaning.specs.Types.{Ty}
-use Rattle.meaning.specs.Signature.{parse}
+use Rattle.meaning.specs.Signature.{parse, Parsed, types, refused}
+use Rattle.meaning.specs.Faults.{refusal}
 use Rattle.meaning.specs.Reader.{Res, got, fault, R, here, _>>=_}
 use Rattle.meaning.specs.ReadValue.{readSig, accept, single}
 use Rattle.basic.specs.declared.spelled.Opened.{Opened}
 use Rattle.basic.specs.declared.spelled.Opened.the-variants.{Inside, Shut}
 use Rattle.basic.specs.declared.spelled.Spelt.{Spelt}
-use Rattle.basic.specs.declared.spelled.Spelt.the-variants.{Types, Refused as Misspelt}
+use Rattle.basic.specs.declared.spelled.Spelt.the-variants as spelt
 
 -- the types that a signature among the bytes spells
 unfoldable pub spelledR : Order → R (List Ty)
 spelledR o = here >>= λ p. readSig o >>= λ s. accept (parse s) p
 
--- how many they are, and the place after them
-abbrev pub speltOf : Res (List Ty) → Spelt
-speltOf (got ts e) = Types (length ts) (record { 0 = e })
-speltOf (fault x) = Misspelt x
+-- how many they are, and the place after them, e; or the grammar's refusal, at p
+abbrev pub speltBy : Parsed → ℕ → ℕ → Spelt
+speltBy (types ts) p e = spelt.Types (length ts) (record { 0 = e })
+speltBy (refused k) p e = spelt.Unspelt (refusal k p)
+
+-- what the signature whose text was sought at p spells
+abbrev pub speltOf : ℕ → Res (List ℕ) → Spelt
+speltOf p (got s e) = speltBy (parse s) p e
+speltOf p (fault x) = spelt.Refused x
 
 -- a variant's type
 unfoldable pub variantTypeR : Order → R Ty

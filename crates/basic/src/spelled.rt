@@ -2,9 +2,9 @@
 ghost use mathlib.Core.Path.{_≡_};
 ghost use lib.ListN.{take};
 ghost use Rattle.meaning.specs.Reader.{reachedOf};
-ghost use Rattle.meaning.specs.ReadValue.{readG};
+ghost use Rattle.meaning.specs.ReadValue.{readSig, readG};
 ghost use Rattle.util.specs.Entry.{Window};
-ghost use Rattle.basic.specs.Spelled.{spelledR, speltOf, variantTypeR, innerOf};
+ghost use Rattle.basic.specs.Spelled.{speltOf, variantTypeR, innerOf};
 use meaning::Counted;
 use meaning::Fault;
 use meaning::Length;
@@ -20,16 +20,18 @@ pub enum Opened {
     Shut(Refusal),
 }
 
-// A signature among the bytes: how many types it spells, and the place after it.
+// A signature among the bytes: how many types it spells, and the place after it. Or the grammar's refusal, or that of the text, which comes first:
+// a header field has its own refusal in place of the grammar's.
 pub enum Spelt {
     Types(usize, Place),
+    Unspelt(Refusal),
     Refused(Refusal),
 }
 
-// The types that the signature among the bytes at `off` spells: a value of type g, and the head of a variant.
-fn spelled_types(buf: &[u8], end: usize, off: usize) -> Spelt
+// The types that the signature among the bytes at `off` spells: a value of type g, the head of a variant, and that of a header field.
+pub fn spelled_types(buf: &[u8], end: usize, off: usize) -> Spelt
     requires { ⌜ Window (now buf) end off ⌝ }
-    ensures { λ r. ⌜ ((o : Order) → r ≡ speltOf (spelledR o (take end (now (buf .entry))) off)) ⌝ }
+    ensures { λ r. ⌜ ((o : Order) → r ≡ speltOf off (readSig o (take end (now (buf .entry))) off)) ⌝ }
 {
     match strings::read_signature_text(buf, end, off) {
         Reached::At(place) => {
@@ -38,7 +40,7 @@ fn spelled_types(buf: &[u8], end: usize, off: usize) -> Spelt
             let stop = next - 1;
             match signature::parse_description(&buf[first..stop]) {
                 Counted::Types(n) => Spelt::Types(n, Place(next)),
-                Counted::Refused(refusal) => Spelt::Refused(meaning::moved(refusal, off)),
+                Counted::Refused(refusal) => Spelt::Unspelt(meaning::moved(refusal, off)),
             }
         }
         Reached::Refused(refusal) => Spelt::Refused(refusal),
@@ -52,6 +54,7 @@ pub fn signature_value(buf: &[u8], end: usize, off: usize) -> Reached
 {
     match spelled_types(buf, end, off) {
         Spelt::Types(_, next) => Reached::At(next),
+        Spelt::Unspelt(refusal) => Reached::Refused(refusal),
         Spelt::Refused(refusal) => Reached::Refused(refusal),
     }
 }
@@ -73,6 +76,7 @@ pub fn inner(buf: &[u8], end: usize, off: usize) -> Opened
                 Opened::Shut(meaning::refuse(Fault::WrongSignature, off))
             }
         }
+        Spelt::Unspelt(refusal) => Opened::Shut(refusal),
         Spelt::Refused(refusal) => Opened::Shut(refusal),
     }
 }

@@ -10,8 +10,9 @@ ghost use Rattle.meaning.specs.ReadMessage.{typeR, fieldR};
 ghost use Rattle.meaning.specs.Header.{entryAs};
 ghost use Rattle.util.specs.Entry.{Window};
 ghost use Rattle.header.specs.HeaderField.{OneIs, Known, Stands, Stood, readAs, knownTo, contentTo, fieldTo};
+use basic::spelled;
 use basic::spelled::Opened;
-use meaning::Counted;
+use basic::spelled::Spelt;
 use meaning::Entry;
 use meaning::Fault;
 use meaning::Length;
@@ -19,7 +20,6 @@ use meaning::Order;
 use meaning::Place;
 use meaning::Reached;
 use meaning::Refusal;
-use text::strings;
 use util::integers;
 use validate_raw::walk;
 use validate_raw::walk::Left;
@@ -43,23 +43,17 @@ fn one_type(buf: &[u8], end: usize, off: usize) -> Opened
     requires { ⌜ Window (now buf) end off ⌝ }
     ensures { λ r. ⌜ ((o : Order) → OneIs r o (now (buf .entry)) end off) ⌝ }
 {
-    match strings::read_signature_text(buf, end, off) {
-        Reached::At(place) => {
-            let next = place.0;
-            let first = off + 1;
-            let stop = next - 1;
-            match signature::parse_description(&buf[first..stop]) {
-                Counted::Types(n) => {
-                    if n == 1 {
-                        Opened::Inside(Place(first), Length(stop - first))
-                    } else {
-                        Opened::Shut(meaning::refuse(Fault::NoSignature, 0))
-                    }
-                }
-                Counted::Refused(_) => Opened::Shut(meaning::refuse(Fault::NoSignature, 0)),
+    match spelled::spelled_types(buf, end, off) {
+        Spelt::Types(n, next) => {
+            if n == 1 {
+                let first = off + 1;
+                Opened::Inside(Place(first), Length(next.0 - 1 - first))
+            } else {
+                Opened::Shut(meaning::refuse(Fault::NoSignature, 0))
             }
         }
-        Reached::Refused(refusal) => Opened::Shut(refusal),
+        Spelt::Unspelt(_) => Opened::Shut(meaning::refuse(Fault::NoSignature, 0)),
+        Spelt::Refused(refusal) => Opened::Shut(refusal),
     }
 }
 

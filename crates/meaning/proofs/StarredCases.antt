@@ -2,6 +2,7 @@
 use Prim.Native.Nat.{ℕ}
 use mathlib.Core.List.{List, [], _∷_, _++_, map}
 use mathlib.Core.Path.{_≡_, refl}
+use lib.IntN.{negsuc}
 use lib.ListN.{replicate}
 use Rattle.meaning.specs.Types.{fix, i16, u16, base, arr, struct, one, more}
 use Rattle.meaning.specs.Value.{_▹_, pad, each, counted, bare, encBase, enc, encVar, encode}
@@ -11,6 +12,9 @@ use Rattle.meaning.specs.Number.{digits, value, store, load, gap, zeros}
 use Rattle.meaning.specs.Text.{lead, scan, utf8, noZero, names, isPath}
 use Rattle.meaning.specs.ReadValue.{taken, no, padding, readFix, sizedR, readText, readPath, readSig, accept, readG, bareR, baseR, elements, lengthR, arrayOf, arrayR, pairR, read, single, variantOf, readVar, readTop, checkAt, checkValue}
 use Rattle.meaning.specs.declared.Fault.the-variants.{NotEnoughBytes, NotEnoughBytesForCollection, PaddingContainedData, InvalidBoolean, StringContainsNullByte, MissingTerminator, InvalidSignature, EmptySignature, EmptyStruct, SignatureTooLong, NestingTooDeep, WrongSignature, VariantTooDeep}
+use Rattle.meaning.specs.FixedValue.{fixedValue, readFixed}
+use Rattle.meaning.specs.declared.FixedRead.the-variants.{Read}
+use Rattle.meaning.specs.declared.FixedValue.the-variants.{Int16}
 use Rattle.meaning.specs.declared.Order.the-variants.{Little}
 use Rattle.meaning.specs.declared.Checked.{Checked}
 use Rattle.meaning.specs.declared.Fault.{Fault}
@@ -54,6 +58,12 @@ kernBytes = 0x0e ∷ 0 ∷ 0 ∷ 0 ∷ 0 ∷ 0 ∷ 0 ∷ 0 ∷ 1 ∷ 0 ∷ 2 ∷
 pub kerns : readTop Little (arr (struct (more (base (fix u16)) (more (base (fix u16)) (one (base (fix i16))))))) kernBytes 0 ≡ got ((1, (2, 0xffff)) ∷ (3, (4, 0x14)) ∷ []) 22
 unfolding ret here fail _>>=_ check bytes ahead window many digits value store load gap zeros padding readFix bareR baseR elements lengthR arrayOf arrayR pairR read readVar readTop
 kerns = refl
+
+-- "first kern -1": the value reader on the two bytes from 12 on, where `negsuc 0` is -1
+pub first-kern : readFixed Little (110 ∷ []) kernBytes 12 ≡ Read (Int16 (negsuc 0))
+unfolding ret here fail _>>=_ check bytes spell nest shape legal find snoc put putBase step run allNest parse digits value load gap zeros padding
+    readFix bareR baseR fixedValue readFixed
+first-kern = refl
 
 pub kerns-back : encode Little (arr (struct (more (base (fix u16)) (more (base (fix u16)) (one (base (fix i16))))))) ((1, (2, 0xffff)) ∷ (3, (4, 0x14)) ∷ []) 0 ≡ kernBytes
 unfolding digits store gap _▹_ pad each counted bare encBase enc encVar encode

@@ -1,13 +1,11 @@
 -- Demands 2 and 3 of the functions that C and Rust call, in the numbers that they get: of every call whose answer meets the function's contract, as
 -- the checker generates it.
-use Prim.Native.Nat.{ℕ}
-use mathlib.Core.List.{List}
 use mathlib.Core.Path.{_≡_, refl, ap, _∙_}
 use denote.Ref.{now}
 use Rattle.meaning.specs.declared.Checked.{Checked}
 use Rattle.meaning.specs.declared.Checked.the-variants.{Accepted, Refused}
 use Rattle.meaning.specs.declared.HeaderRead.{HeaderRead}
-use Rattle.meaning.specs.declared.HeaderRead.the-variants.{Read, Refused as NoHeader}
+use Rattle.meaning.specs.declared.HeaderRead.the-variants as headerRead
 use Rattle.meaning.specs.ReadMessage.{checkMessage}
 use Rattle.meaning.specs.Header.{readHeader}
 use Rattle.meaning.proofs.Promises.{Told, toldOf, Answered, ValueAsked, checkOf, ValueDemands, value-demands, MessageDemands, message-demands}
@@ -27,8 +25,8 @@ told-checked (Accepted n) = refl
 told-checked (Refused x) = refl
 
 told-header : (h : HeaderRead) → toldIn (readOf h .answer) ≡ toldHeader h
-told-header (Read h) = refl
-told-header (NoHeader x) = refl
+told-header (headerRead.Read h) = refl
+told-header (headerRead.Refused x) = refl
 
 abbrev pub ValueCall : Type 0
 ValueCall = Answered mt-check-value.Learnt
@@ -44,21 +42,11 @@ valueAsked c = record {
 pub values : ValueDemands valueAsked (λ c. toldIn (c .answer))
 values = value-demands valueAsked (λ c. toldIn (c .answer)) (λ c. ap toldIn (c .meets) ∙ told-checked (checkOf (valueAsked c)))
 
-abbrev pub MessageCall : Type 0
-MessageCall = Answered mt-check-message.Learnt
+pub messages : MessageDemands (λ (c : Answered mt-check-message.Learnt). now (c .args .0)) (λ c. toldIn (c .answer))
+messages =
+    message-demands (λ c. now (c .args .0)) (λ c. toldIn (c .answer)) (λ c. ap toldIn (c .meets) ∙ told-checked (checkMessage (now (c .args .0))))
 
-abbrev pub messageAsked : MessageCall → List ℕ
-messageAsked c = now (c .args .0)
-
-pub messages : MessageDemands messageAsked (λ c. toldIn (c .answer))
-messages = message-demands messageAsked (λ c. toldIn (c .answer)) (λ c. ap toldIn (c .meets) ∙ told-checked (checkMessage (messageAsked c)))
-
-abbrev pub HeaderCall : Type 0
-HeaderCall = Answered mt-read-header.Learnt
-
-abbrev pub headerAsked : HeaderCall → List ℕ
-headerAsked c = now (c .args .0)
-
-pub headers : MessageDemands headerAsked (λ c. toldIn (c .answer .answer))
-headers = message-demands headerAsked (λ c. toldIn (c .answer .answer))
-    (λ c. ap (λ r. toldIn (r .answer)) (c .meets) ∙ told-header (readHeader (headerAsked c)) ∙ header-told (headerAsked c))
+pub headers : MessageDemands (λ (c : Answered mt-read-header.Learnt). now (c .args .0)) (λ c. toldIn (c .answer .answer))
+headers =
+    message-demands (λ c. now (c .args .0)) (λ c. toldIn (c .answer .answer))
+    (λ c. ap (λ r. toldIn (r .answer)) (c .meets) ∙ told-header (readHeader (now (c .args .0))) ∙ header-told (now (c .args .0)))

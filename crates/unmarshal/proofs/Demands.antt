@@ -28,14 +28,6 @@ pub header-told : (b : List ℕ) → toldHeader (readHeader b) ≡ toldOf (check
 unfolding readHeader checkMessage
 header-told b = header-from (readMessage b 0)
 
-abbrev pub Call : Type 0
-Call = Answered unmarshal-header.Learnt
-
-abbrev pub asked : Call → List ℕ
-asked c = now (c .args .0)
-
-abbrev pub told : Call → Told
-told c = toldHeader (c .answer)
-
-pub demands : MessageDemands asked told
-demands = message-demands asked told (λ c. ap toldHeader (c .meets) ∙ header-told (asked c))
+pub demands : MessageDemands (λ (c : Answered unmarshal-header.Learnt). now (c .args .0)) (λ c. toldHeader (c .answer))
+demands =
+    message-demands (λ c. now (c .args .0)) (λ c. toldHeader (c .answer)) (λ c. ap toldHeader (c .meets) ∙ header-told (now (c .args .0)))

@@ -10,7 +10,7 @@ use Rattle.meaning.specs.declared.Order.{Order}
 use Rattle.meaning.specs.declared.Refusal.{Refusal}
 use Rattle.meaning.specs.declared.Fault.the-variants.{BadOffset, BadArgument}
 use Rattle.meaning.specs.declared.Counted.{Counted}
-use Rattle.meaning.specs.declared.Counted.the-variants.{Types as Counts, Refused as Uncounted}
+use Rattle.meaning.specs.declared.Counted.the-variants as counted
 use Rattle.meaning.specs.declared.Checked.{Checked}
 use Rattle.meaning.specs.declared.Checked.the-variants.{Refused}
 use Rattle.meaning.specs.Faults.{refusal}
@@ -25,7 +25,7 @@ use Rattle.meaning.proofs.ValueLocal.{readTop-local}
 use Rattle.meaning.proofs.ValueDemands.{checkValue-is}
 use Rattle.validate_raw.specs.declared.walk.Spot.{Spot}
 use Rattle.validate_raw.specs.declared.walk.Walked.{Walked}
-use Rattle.validate_raw.specs.declared.walk.Walked.the-variants.{Past, Refused as Stopped}
+use Rattle.validate_raw.specs.declared.walk.Walked.the-variants as walked
 use Rattle.validate_raw.specs.Walk.{walkedOf}
 use Rattle.validate_raw.proofs.walk.WalkLaws.{past-inv, stopped-inv}
 
@@ -35,10 +35,10 @@ pub record Single (s : List ℕ) : Type 0 where
   pub only : onlyOne (parse s) ≡ the ty
   pub stands : TypeAt ty s 0 (length s)
 
-pub single : (s : List ℕ) (n : ℕ) → Counts n ≡ countedOf (parse s) → n ≡ 1 → Single s
+pub single : (s : List ℕ) (n : ℕ) → counted.Types n ≡ countedOf (parse s) → n ≡ 1 → Single s
 single s n h k = go (parse s) refl h
   where
-    go : (q : Parsed) → parse s ≡ q → Counts n ≡ countedOf q → Single s
+    go : (q : Parsed) → parse s ≡ q → counted.Types n ≡ countedOf q → Single s
     go (types []) e z = let y : n ≡ 0 = cc in absurd (omega arith)
     go (types (t ∷ [])) e z = record { ty = t; only = ap onlyOne e; stands = whole-type e }
     go (types (t ∷ u ∷ ts)) e z = let y : n ≡ length (t ∷ u ∷ ts) = cc in absurd (omega arith)
@@ -48,13 +48,13 @@ pub one-type : {s : List ℕ} → Single s → Typed s 0
 one-type {s} h = record { ty = h .ty; next = length s; stands = h .stands }
 
 -- another number of them, or none that can be counted
-not-single : (q : Parsed) (n : ℕ) → Counts n ≡ countedOf q → (n ≡ 1 → ⊥) → onlyOne q ≡ not1
+not-single : (q : Parsed) (n : ℕ) → counted.Types n ≡ countedOf q → (n ≡ 1 → ⊥) → onlyOne q ≡ not1
 not-single (types []) n h k = refl
 not-single (types (t ∷ [])) n h k = absurd (k (let y : n ≡ 1 = cc in y))
 not-single (types (t ∷ u ∷ ts)) n h k = refl
 not-single (refused f) n h k = refl
 
-not-counted : (q : Parsed) (x : Refusal) → Uncounted x ≡ countedOf q → onlyOne q ≡ not1
+not-counted : (q : Parsed) (x : Refusal) → counted.Refused x ≡ countedOf q → onlyOne q ≡ not1
 not-counted (types ts) x h = absurd (let y : _≡_ {A = ℕ} 0 1 = cc in omega arith)
 not-counted (refused f) x h = refl
 
@@ -63,10 +63,10 @@ module _ (o : Order) (s b : List ℕ) (off : ℕ) (x : Refusal) where
   unfolding checkValue
   no-type h e = rw (h, checkValue, e)
 
-  pub other-count : (n : ℕ) → Counts n ≡ countedOf (parse s) → (n ≡ 1 → ⊥) → x ≡ refusal BadArgument 0 → Refused x ≡ checkValue o s b off
+  pub other-count : (n : ℕ) → counted.Types n ≡ countedOf (parse s) → (n ≡ 1 → ⊥) → x ≡ refusal BadArgument 0 → Refused x ≡ checkValue o s b off
   other-count n h k e = no-type (not-single (parse s) n h k) e
 
-  pub no-count : (y : Refusal) → Uncounted y ≡ countedOf (parse s) → x ≡ refusal BadArgument 0 → Refused x ≡ checkValue o s b off
+  pub no-count : (y : Refusal) → counted.Refused y ≡ countedOf (parse s) → x ≡ refusal BadArgument 0 → Refused x ≡ checkValue o s b off
   no-count y h e = no-type (not-counted (parse s) y h) e
 
   pub beyond : Single s → length b < off → x ≡ refusal BadOffset off → Refused x ≡ checkValue o s b off
@@ -75,14 +75,14 @@ module _ (o : Order) (s b : List ℕ) (off : ℕ) (x : Refusal) where
 
 module _ (o : Order) (s b : List ℕ) (off : ℕ) (i : Single s) (h : off ≤ length b) (q : Walked)
     (answers : (t : Ty) (e : ℕ) → TypeAt t s 0 e → q ≡ walkedOf e (read o (readVar o 16) t (take (length b) b) off)) where
-  walked : q ≡ walkedOf (length s) (readTop o (i .ty) b off)
+  answered : q ≡ walkedOf (length s) (readTop o (i .ty) b off)
   unfolding readTop
-  walked = answers (i .ty) (length s) (i .stands) ∙ ap (λ (x : List ℕ). walkedOf (length s) (read o (readVar o 16) (i .ty) x off)) (take-length b)
+  answered = answers (i .ty) (length s) (i .stands) ∙ ap (λ (x : List ℕ). walkedOf (length s) (read o (readVar o 16) (i .ty) x off)) (take-length b)
 
-  pub value-past : (p : Spot) → q ≡ Past p → (off ≤ p .buf .0) × (taken (p .buf .0 - off) ≡ checkValue o s b off)
+  pub value-past : (p : Spot) → q ≡ walked.Past p → (off ≤ p .buf .0) × (taken (p .buf .0 - off) ≡ checkValue o s b off)
   value-past p k =
-      let j = past-inv (length s) p (readTop o (i .ty) b off) (sym walked ∙ k) in
+      let j = past-inv (length s) p (readTop o (i .ty) b off) (sym answered ∙ k) in
       (readTop-local o (i .ty) .bound b off (j .0) (p .buf .0) h (j .1) .0, sym (checkValue-is o s (i .ty) b off (i .only) h ∙ ap (checkedOf off) (j .1)))
 
-  pub value-stop : (x : Refusal) → q ≡ Stopped x → Refused x ≡ checkValue o s b off
-  value-stop x k = sym (checkValue-is o s (i .ty) b off (i .only) h ∙ ap (checkedOf off) (stopped-inv (length s) x (readTop o (i .ty) b off) (sym walked ∙ k)))
+  pub value-stop : (x : Refusal) → q ≡ walked.Refused x → Refused x ≡ checkValue o s b off
+  value-stop x k = sym (checkValue-is o s (i .ty) b off (i .only) h ∙ ap (checkedOf off) (stopped-inv (length s) x (readTop o (i .ty) b off) (sym answered ∙ k)))

@@ -15,17 +15,17 @@ use Rattle.meaning.specs.Places.{Typed, FieldsAt}
 use Rattle.validate_raw.specs.FirstBytes.{composite}
 use Rattle.validate_raw.specs.Items.{Item, single, pair}
 use Rattle.validate_raw.specs.declared.walk.Walked.{Walked}
-use Rattle.validate_raw.specs.declared.walk.Walked.the-variants.{Past, Refused as Stopped}
+use Rattle.validate_raw.specs.declared.walk.Walked.the-variants as walked
 
 -- what a walk answers for a reader, where the type ends at the place n of the signature
 abbrev pub walkedOf : {A : Type 0} → ℕ → Res A → Walked
-walkedOf n (got v e) = Past (record { sig = record { 0 = n }; buf = record { 0 = e } })
-walkedOf n (fault x) = Stopped x
+walkedOf n (got v e) = walked.Past (record { sig = record { 0 = n }; buf = record { 0 = e } })
+walkedOf n (fault x) = walked.Refused x
 
 -- the same from where a reader gets to
 abbrev pub walkedTo : ℕ → Reached → Walked
-walkedTo n (At p) = Past (record { sig = record { 0 = n }; buf = p })
-walkedTo n (Refused x) = Stopped x
+walkedTo n (At p) = walked.Past (record { sig = record { 0 = n }; buf = p })
+walkedTo n (Refused x) = walked.Refused x
 
 -- an entry of a dict, with 8 before it
 unfoldable pub entryR : {W : Type 0} → Order → R W → (k : Base) (t : Ty) → R (Raw k × Of t W)

@@ -1,21 +1,19 @@
 -- A signature among the bytes: what stands there once it is read, for a value of type g and for a variant alike.
-use Prim.Native.Nat.{ℕ, zero, suc, _+_, _-_, _≤_, _<_}
+use Prim.Native.Nat.{ℕ, _+_, _-_, _≤_, _<_}
 use native.Mathlib.Omega.{arith}
-use mathlib.Core.Bool.{Bool, true, false}
 use mathlib.Core.List.{List, [], _∷_}
 use mathlib.Core.Path.{_≡_, refl, ap, sym, subst, _∙_}
-use lib.ListN.{length, take, drop, length-drop}
-use lib.Seq.{length-take-le, take-take}
-use lib.Dec.{T}
+use lib.ListN.{length, take, drop}
+use lib.Seq.{length-take-le}
 use Rattle.meaning.specs.declared.Order.{Order}
 use Rattle.meaning.specs.declared.Refusal.{Refusal}
 use Rattle.meaning.specs.declared.Fault.{Fault}
-use Rattle.meaning.specs.declared.Fault.the-variants.{InvalidUtf8, StringContainsNullByte, MissingTerminator, EmptySignature, WrongSignature}
+use Rattle.meaning.specs.declared.Fault.the-variants.{EmptySignature, WrongSignature}
 use Rattle.meaning.specs.declared.Place.{Place}
 use Rattle.meaning.specs.declared.Length.{Length}
-use Rattle.meaning.specs.declared.Reached.the-variants.{At as Reaches, Refused as Stopped}
+use Rattle.meaning.specs.declared.Reached.the-variants as reached
 use Rattle.meaning.specs.declared.Reached.{Reached}
-use Rattle.meaning.specs.declared.Counted.the-variants.{Types as Counts, Refused as Uncounted}
+use Rattle.meaning.specs.declared.Counted.the-variants as counted
 use Rattle.meaning.specs.Faults.{refusal, moved}
 use Rattle.meaning.specs.Places.{TypeAt}
 use Rattle.meaning.proofs.PlaceLaws.{whole-type}
@@ -23,50 +21,19 @@ use Rattle.meaning.proofs.Loop.{at-inv, refused-inv}
 use Rattle.util.specs.Entry.{Window}
 use Rattle.util.proofs.Windows.{seen}
 use Rattle.basic.specs.declared.spelled.Spelt.{Spelt}
-use Rattle.basic.specs.declared.spelled.Spelt.the-variants.{Types, Refused as Misspelt}
+use Rattle.basic.specs.declared.spelled.Spelt.the-variants as spelt
 use Rattle.basic.specs.declared.spelled.Opened.{Opened}
 use Rattle.basic.specs.declared.spelled.Opened.the-variants.{Inside, Shut}
-use Rattle.meaning.specs.Number.{load, zeros}
-use Rattle.meaning.specs.Text.{utf8}
 use Rattle.meaning.specs.Types.{Ty}
 use Rattle.meaning.specs.Signature.{parse, Parsed, types, refused}
-use Rattle.meaning.specs.Reader.{Res, got, fault, R, ret, here, fail, _>>=_, _>>_, check, bytes, reachedOf}
-use Rattle.meaning.specs.ReadValue.{any, sizedR, readSig, accept, readG, single, countedOf}
-use Rattle.meaning.proofs.Local.{bind-got, bind-fault, bind-inv, ret-inv, refuse-alike}
-use Rattle.meaning.proofs.Meets.{At, here-bind, bytes-bind-inv, check-bind-inv}
+use Rattle.meaning.specs.Reader.{Res, got, fault, R, ret, here, fail, _>>=_, reachedOf}
+use Rattle.meaning.specs.ReadValue.{any, readSig, accept, readG, single, countedOf}
+use Rattle.meaning.proofs.Local.{bind-got, bind-fault, bind-inv, refuse-alike}
+use Rattle.meaning.proofs.Meets.{here-bind}
 use Rattle.meaning.proofs.BaseMeets.{accept-inv, accept-got}
-use Rattle.basic.specs.Spelled.{spelledR, speltOf, variantTypeR, innerOf}
-
--- where the bytes of a signature that was read stand
-pub record TextAt (b : List ℕ) (off : ℕ) (s : List ℕ) (e : ℕ) : Type 0 where
-  pub ends : e ≡ off + 1 + length s + 1
-  pub within : e ≤ length b
-  pub is : s ≡ take (length s) (drop (off + 1) b)
-
-pub text-at : (o : Order) (b : List ℕ) (off : ℕ) (s : List ℕ) (e : ℕ) → readSig o b off ≡ got s e → TextAt b off s e
-unfolding readSig sizedR
-text-at o b off s e h =
-    let i = bytes-bind-inv 1 off (λ l. bytes (load o l + 1) off >>= λ x. tests off l x) b off s e (sym (here-bind (λ p. bytes 1 p >>= λ l. bytes (load o l + 1) p >>= λ x. tests p l x) b off) ∙ h) in
-    let n : ℕ = load o (i .0) in
-    let j = bytes-bind-inv (n + 1) off (λ x. tests off (i .0) x) b (i .1) s e (i .6) in
-    let c6 = check-bind-inv (utf8 (take n (j .0))) InvalidUtf8 off
-    (λ z. check (any (take n (j .0))) StringContainsNullByte off >> (check (zeros (drop n (j .0))) MissingTerminator off >> ret (take n (j .0)))) b (j .1) s e (j .6) in
-    let c7 = check-bind-inv (any (take n (j .0))) StringContainsNullByte off (λ z. check (zeros (drop n (j .0))) MissingTerminator off >> ret (take n (j .0))) b (j .1) s e (c6 .1) in
-    let c8 = check-bind-inv (zeros (drop n (j .0))) MissingTerminator off (λ z. ret (take n (j .0))) b (j .1) s e (c7 .1) in
-    let r = ret-inv (take n (j .0)) b (j .1) s e (c8 .1) in
-    let l : length s ≡ n = ap length (sym (r .0)) ∙ length-take-le n (j .0) (omega (arith, j .2)) in
-    let m : i .1 ≡ off + 1 = omega (arith, i .4 .end, i .2) in
-    record {
-      ends = omega (arith, j .4 .end, j .2, r .1);
-      within = omega (arith, r .1, j .5);
-      is = sym (r .0) ∙ ap (take n) (j .3) ∙ first n (drop (i .1) b) ∙ ap (λ (k : ℕ). take k (drop (i .1) b)) (sym l) ∙ ap (λ (k : ℕ). take (length s) (drop k b)) m;
-    }
-  where
-    tests : ℕ → List ℕ → List ℕ → R (List ℕ)
-    tests p l x = check (utf8 (take (load o l) x)) InvalidUtf8 p >> (check (any (take (load o l) x)) StringContainsNullByte p >> (check (zeros (drop (load o l) x)) MissingTerminator p >> ret (take (load o l) x)))
-
-    first : (n : ℕ) (xs : List ℕ) → take n (take (n + 1) xs) ≡ take n xs
-    first n xs = take-take n (n + 1) xs (omega arith)
+use Rattle.meaning.proofs.ValueLocal.{readSig-local}
+use Rattle.text.proofs.strings.Strings.{text-part}
+use Rattle.basic.specs.Spelled.{spelledR, speltBy, speltOf, variantTypeR, innerOf}
 
 module _ (o : Order) (b : List ℕ) (off : ℕ) where
   -- a signature that spells types
@@ -104,55 +71,123 @@ module _ (o : Order) (b : List ℕ) (off : ℕ) where
       go (got ts e) h = ap reachedOf (spelled-then (λ p s ts. ret s) ts e h) ∙ sym (ap reachedOf h)
       go (fault x) h = ap reachedOf (spelled-fault (λ p s ts. ret s) x h) ∙ sym (ap reachedOf h)
 
-pub counted-types : (q : Parsed) (n : ℕ) → Counts n ≡ countedOf q → (ts : List Ty) × (q ≡ types ts) × (n ≡ length ts)
+pub counted-types : (q : Parsed) (n : ℕ) → counted.Types n ≡ countedOf q → (ts : List Ty) × (q ≡ types ts) × (n ≡ length ts)
 counted-types (types ts) n h = (ts, refl, cc)
 counted-types (refused k) n h = absurd (let z : _≡_ {A = ℕ} 0 1 = cc in omega arith)
 
-pub counted-refused : (q : Parsed) (x : Refusal) → Uncounted x ≡ countedOf q → (k : Fault) × (q ≡ refused k) × (x ≡ refusal k 0)
+pub counted-refused : (q : Parsed) (x : Refusal) → counted.Refused x ≡ countedOf q → (k : Fault) × (q ≡ refused k) × (x ≡ refusal k 0)
 counted-refused (types ts) x h = absurd (let z : _≡_ {A = ℕ} 0 1 = cc in omega arith)
 counted-refused (refused k) x h = (k, refl, cc)
 
--- the code's ways through `spelledR`: the text, and then what the grammar says of the part of the buffer that holds it
+-- what the text that was read says of the buffer
+module _ (o : Order) (buf : List ℕ) (end off : ℕ) (w : Window buf end off) (s : List ℕ) (e : ℕ) (h : readSig o (take end buf) off ≡ got s e) where
+  stands : (e ≡ off + 1 + (length s + 1)) × (s ≡ take (length s) (drop (off + 1) (take end buf)))
+  unfolding readSig
+  stands = text-part o 1 any (take end buf) off s e h
+
+  text-within : (off + 2 ≤ e) × (e ≤ end)
+  text-within =
+      let l : length (take end buf) ≡ end = length-take-le end buf (w .held) in
+      let r = readSig-local o .bound (take end buf) off s e (rw l (w .inside)) h in
+      (omega (arith, stands .0), omega arith)
+
+  abbrev cut : List ℕ
+  cut = take (e - 1 - (off + 1)) (drop (off + 1) buf)
+
+  same-text : cut ≡ s
+  same-text =
+      let n : e - 1 - (off + 1) ≡ length s = omega (arith, stands .0) in
+      ap (λ (k : ℕ). take k (drop (off + 1) buf)) n
+      ∙ sym (seen buf end (off + 1) (length s) (omega (arith, stands .0, text-within .1)) (w .held)) ∙ sym (stands .1)
+
+  -- the one type that it spells stands between the length byte and the zero
+  pub type-stands : (t : Ty) → parse s ≡ types (t ∷ []) → TypeAt t cut 0 (e - 1 - (off + 1))
+  type-stands t k =
+      let n : length s ≡ e - 1 - (off + 1) = omega (arith, stands .0) in
+      subst (λ (x : List ℕ). TypeAt t x 0 (e - 1 - (off + 1))) (sym same-text) (subst (λ (m : ℕ). TypeAt t s 0 m) n (whole-type k))
+
+-- the code's ways to `speltOf`: the text, and then what the grammar says of the part of the buffer that holds it
 module _ (o : Order) (buf : List ℕ) (end off : ℕ) (w : Window buf end off) where
   abbrev seenPart : List ℕ
   seenPart = take end buf
 
-  pub spelt-stop : (x : Refusal) → reachedOf (readSig o seenPart off) ≡ Stopped x → Misspelt x ≡ speltOf (spelledR o seenPart off)
-  unfolding spelledR
-  spelt-stop x h =
-      sym (ap speltOf (here-bind (λ p. readSig o >>= λ s. accept (parse s) p) seenPart off
-      ∙ bind-fault (readSig o) (λ s. accept (parse s) off) seenPart off x (refused-inv (readSig o seenPart off) x h)))
+  pub spelt-stop : (x : Refusal) → reachedOf (readSig o seenPart off) ≡ reached.Refused x → spelt.Refused x ≡ speltOf off (readSig o seenPart off)
+  spelt-stop x h = sym (ap (speltOf off) (refused-inv (readSig o seenPart off) x h))
 
-  module _ (p : Place) (h : reachedOf (readSig o seenPart off) ≡ Reaches p) where
-    pub text : (s : List ℕ) × (readSig o seenPart off ≡ got s (p .0))
+  module _ (p : Place) (h : reachedOf (readSig o seenPart off) ≡ reached.At p) where
+    text : (s : List ℕ) × (readSig o seenPart off ≡ got s (p .0))
     text = at-inv (readSig o seenPart off) p h
 
-    pub stands : TextAt seenPart off (text .0) (p .0)
-    stands = text-at o seenPart off (text .0) (p .0) (text .1)
+    pub reached-within : (off + 2 ≤ p .0) × (p .0 ≤ end)
+    reached-within = text-within o buf end off w (text .0) (p .0) (text .1)
 
-    pub text-within : (off + 2 ≤ p .0) × (p .0 ≤ end)
-    text-within = let l : length seenPart ≡ end = length-take-le end buf (w .held) in (omega (arith, stands .ends), omega (arith, stands .within))
+    judged : (q : Parsed) → parse (cut o buf end off w (text .0) (p .0) (text .1)) ≡ q → speltOf off (readSig o seenPart off) ≡ speltBy q off (p .0)
+    judged q k =
+        ap (speltOf off) (text .1)
+        ∙ ap (λ (y : Parsed). speltBy y off (p .0)) (ap parse (sym (same-text o buf end off w (text .0) (p .0) (text .1))) ∙ k)
 
-    pub same-text : take (p .0 - 1 - (off + 1)) (drop (off + 1) buf) ≡ text .0
-    same-text =
-        let n : p .0 - 1 - (off + 1) ≡ length (text .0) = omega (arith, stands .ends) in
-        ap (λ (k : ℕ). take k (drop (off + 1) buf)) n
-        ∙ sym (seen buf end (off + 1) (length (text .0)) (omega (arith, stands .ends, text-within .1)) (w .held)) ∙ sym (stands .is)
+    pub spelt-types : (n : ℕ) → counted.Types n ≡ countedOf (parse (take (p .0 - 1 - (off + 1)) (drop (off + 1) buf)))
+        → spelt.Types n (record { 0 = p .0 }) ≡ speltOf off (readSig o seenPart off)
+    spelt-types n k = let i = counted-types _ n k in rw (i .2) (sym (judged (types (i .0)) (i .1)))
 
-    reads : spelledR o seenPart off ≡ accept (parse (text .0)) off seenPart (p .0)
-    unfolding spelledR
-    reads = here-bind (λ q. readSig o >>= λ s. accept (parse s) q) seenPart off ∙ bind-got (readSig o) (λ s. accept (parse s) off) seenPart off (text .0) (p .0) (text .1)
+    pub spelt-refused : (x y : Refusal) → counted.Refused x ≡ countedOf (parse (take (p .0 - 1 - (off + 1)) (drop (off + 1) buf))) → y ≡ moved off x
+        → spelt.Unspelt y ≡ speltOf off (readSig o seenPart off)
+    spelt-refused x y k e = let i = counted-refused _ x k in rw (e, i .2) (sym (judged (refused (i .0)) (i .1)))
 
-    pub spelt-types : (n : ℕ) → Counts n ≡ countedOf (parse (take (p .0 - 1 - (off + 1)) (drop (off + 1) buf))) → Types n (record { 0 = p .0 }) ≡ speltOf (spelledR o seenPart off)
-    spelt-types n k =
-        let i = counted-types (parse (text .0)) n (k ∙ ap (λ (s : List ℕ). countedOf (parse s)) same-text) in
-        sym (ap speltOf (reads ∙ ap (λ (q : Parsed). accept q off seenPart (p .0)) (i .1) ∙ accept-got (i .0) off seenPart (p .0)) ∙ ap (λ (m : ℕ). Types m (record { 0 = p .0 })) (sym (i .2)))
+-- what an answer says of the text and of the grammar
+module _ (o : Order) (b : List ℕ) (off : ℕ) where
+  pub record SaysTypes (n e : ℕ) : Type 0 where
+    pub text : List ℕ
+    pub list : List Ty
+    pub reads : readSig o b off ≡ got text e
+    pub parses : parse text ≡ types list
+    pub counts : n ≡ length list
 
-    pub spelt-refused : (x y : Refusal) → Uncounted x ≡ countedOf (parse (take (p .0 - 1 - (off + 1)) (drop (off + 1) buf))) → y ≡ moved off x → Misspelt y ≡ speltOf (spelledR o seenPart off)
-    unfolding accept fail
-    spelt-refused x y k e =
-        let i = counted-refused (parse (text .0)) x (k ∙ ap (λ (s : List ℕ). countedOf (parse s)) same-text) in
-        rw e (sym (ap speltOf (reads ∙ ap (λ (q : Parsed). accept q off seenPart (p .0)) (i .1)) ∙ ap (λ (z : Refusal). Misspelt (moved off z)) (sym (i .2))))
+  pub record SaysNot (x : Refusal) : Type 0 where
+    pub text : List ℕ
+    pub past : ℕ
+    pub why : Fault
+    pub reads : readSig o b off ≡ got text past
+    pub parses : parse text ≡ refused why
+    pub told : x ≡ refusal why off
+
+  abbrev pub Says : Spelt → Type 0
+  Says (spelt.Types n e) = SaysTypes n (e .0)
+  Says (spelt.Unspelt x) = SaysNot x
+  Says (spelt.Refused x) = readSig o b off ≡ fault x
+
+  pub spelt-says : (q : Spelt) → q ≡ speltOf off (readSig o b off) → Says q
+  spelt-says q h = subst (λ (z : Spelt). Says z) (sym h) (go (readSig o b off) refl)
+    where
+      by : (s : List ℕ) (e : ℕ) → readSig o b off ≡ got s e → (p : Parsed) → parse s ≡ p → Says (speltBy p off e)
+      by s e r (types ts) k = record { text = s; list = ts; reads = r; parses = k; counts = refl }
+      by s e r (refused f) k = record { text = s; past = e; why = f; reads = r; parses = k; told = refl }
+
+      go : (x : Res (List ℕ)) → readSig o b off ≡ x → Says (speltOf off x)
+      go (got s e) r = by s e r (parse s) refl
+      go (fault x) r = r
+
+  spelled-by : (s : List ℕ) (e : ℕ) (q : Parsed) → readSig o b off ≡ got s e → parse s ≡ q → spelledR o b off ≡ accept q off b e
+  unfolding spelledR
+  spelled-by s e q r k =
+      here-bind (λ p. readSig o >>= λ s. accept (parse s) p) b off
+      ∙ bind-got (readSig o) (λ s. accept (parse s) off) b off s e r ∙ ap (λ (y : Parsed). accept y off b e) k
+
+  -- both refusals are those of the reader of types
+  abbrev pub spelledTo : Spelt → Reached
+  spelledTo (spelt.Types n e) = reached.At e
+  spelledTo (spelt.Unspelt x) = reached.Refused x
+  spelledTo (spelt.Refused x) = reached.Refused x
+
+  pub spelt-reached : (q : Spelt) → q ≡ speltOf off (readSig o b off) → spelledTo q ≡ reachedOf (spelledR o b off)
+  unfolding spelledR accept fail ret
+  spelt-reached q h = go q (spelt-says q h)
+    where
+      go : (q : Spelt) → Says q → spelledTo q ≡ reachedOf (spelledR o b off)
+      go (spelt.Types n e) i = sym (ap reachedOf (spelled-by (i .text) (e .0) (types (i .list)) (i .reads) (i .parses)))
+      go (spelt.Unspelt x) i = rw (i .told) (sym (ap reachedOf (spelled-by (i .text) (i .past) (refused (i .why)) (i .reads) (i .parses))))
+      go (spelt.Refused x) r =
+          sym (ap reachedOf (here-bind (λ p. readSig o >>= λ s. accept (parse s) p) b off ∙ bind-fault (readSig o) (λ s. accept (parse s) off) b off x r))
 
 -- what a count of types says of a variant
 module _ (o : Order) (buf : List ℕ) (end off : ℕ) (w : Window buf end off) where
@@ -160,26 +195,21 @@ module _ (o : Order) (buf : List ℕ) (end off : ℕ) (w : Window buf end off) w
   unfolding variantTypeR
   variant-type ts e h = here-bind (λ p. spelledR o >>= λ ts. single ts p) (take end buf) off ∙ bind-got (spelledR o) (λ ts. single ts off) (take end buf) off ts e h
 
-  spelt-inv : (n : ℕ) (e : Place) → Types n e ≡ speltOf (spelledR o (take end buf) off) → (ts : List Ty) × (spelledR o (take end buf) off ≡ got ts (e .0)) × (n ≡ length ts)
-  spelt-inv n e h = go (spelledR o (take end buf) off) refl h
-    where
-      go : (x : Res (List Ty)) → spelledR o (take end buf) off ≡ x → Types n e ≡ speltOf x → (ts : List Ty) × (spelledR o (take end buf) off ≡ got ts (e .0)) × (n ≡ length ts)
-      go (got ts d) q k = let z : e .0 ≡ d = cc in (ts, q ∙ ap (λ (y : ℕ). got ts y) (sym z), cc)
-      go (fault x) q k = absurd (let z : _≡_ {A = ℕ} 0 1 = cc in omega arith)
+  spelt-inv : (n : ℕ) (e : Place) → spelt.Types n e ≡ speltOf off (readSig o (take end buf) off)
+      → (ts : List Ty) × (spelledR o (take end buf) off ≡ got ts (e .0)) × (n ≡ length ts)
+  spelt-inv n e h =
+      let i = spelt-says o (take end buf) off (spelt.Types n e) h in
+      let r = spelled-by o (take end buf) off (i .text) (e .0) (types (i .list)) (i .reads) (i .parses) in
+      (i .list, r ∙ accept-got (i .list) off (take end buf) (e .0), i .counts)
 
   -- a type, or none
-  pub inner-stop : (x : Refusal) → Misspelt x ≡ speltOf (spelledR o (take end buf) off) → Shut x ≡ innerOf off (variantTypeR o (take end buf) off)
+  pub inner-stop : (x : Refusal) → reached.Refused x ≡ reachedOf (spelledR o (take end buf) off) → Shut x ≡ innerOf off (variantTypeR o (take end buf) off)
   unfolding variantTypeR
-  inner-stop x h = go (spelledR o (take end buf) off) refl h
-    where
-      go : (y : Res (List Ty)) → spelledR o (take end buf) off ≡ y → Misspelt x ≡ speltOf y → Shut x ≡ innerOf off (variantTypeR o (take end buf) off)
-      go (got ts d) q k = absurd (let z : _≡_ {A = ℕ} 0 1 = cc in omega arith)
-      go (fault y) q k =
-          let z : x ≡ y = cc in
-          sym (ap (innerOf off) (here-bind (λ p. spelledR o >>= λ ts. single ts p) (take end buf) off
-          ∙ bind-fault (spelledR o) (λ ts. single ts off) (take end buf) off x (q ∙ ap (λ (u : Refusal). fault u) (sym z))))
+  inner-stop x h =
+      sym (ap (innerOf off) (here-bind (λ p. spelledR o >>= λ ts. single ts p) (take end buf) off
+      ∙ bind-fault (spelledR o) (λ ts. single ts off) (take end buf) off x (refused-inv (spelledR o (take end buf) off) x (sym h))))
 
-  pub inner-none : (n : ℕ) (e : Place) (x : Refusal) → n ≡ 0 → Types n e ≡ speltOf (spelledR o (take end buf) off) → x ≡ refusal EmptySignature off → Shut x ≡ innerOf off (variantTypeR o (take end buf) off)
+  pub inner-none : (n : ℕ) (e : Place) (x : Refusal) → n ≡ 0 → spelt.Types n e ≡ speltOf off (readSig o (take end buf) off) → x ≡ refusal EmptySignature off → Shut x ≡ innerOf off (variantTypeR o (take end buf) off)
   unfolding single fail
   inner-none n e x z h k = let i = spelt-inv n e h in go (i .0) (i .1) (omega (arith, i .2))
     where
@@ -187,7 +217,7 @@ module _ (o : Order) (buf : List ℕ) (end off : ℕ) (w : Window buf end off) w
       go [] q l = rw k (sym (ap (innerOf off) (variant-type [] (e .0) q)))
       go (t ∷ ts) q l = absurd (omega arith)
 
-  pub inner-more : (n : ℕ) (e : Place) (x : Refusal) → (n ≡ 0 → ⊥) → (n ≡ 1 → ⊥) → Types n e ≡ speltOf (spelledR o (take end buf) off)
+  pub inner-more : (n : ℕ) (e : Place) (x : Refusal) → (n ≡ 0 → ⊥) → (n ≡ 1 → ⊥) → spelt.Types n e ≡ speltOf off (readSig o (take end buf) off)
       → x ≡ refusal WrongSignature off → Shut x ≡ innerOf off (variantTypeR o (take end buf) off)
   unfolding single fail
   inner-more n e x y z h k = let i = spelt-inv n e h in go (i .0) (i .1) (i .2)
@@ -197,7 +227,7 @@ module _ (o : Order) (buf : List ℕ) (end off : ℕ) (w : Window buf end off) w
       go (t ∷ []) q l = absurd (z l)
       go (t ∷ u ∷ ts) q l = rw k (sym (ap (innerOf off) (variant-type (t ∷ u ∷ ts) (e .0) q)))
 
-  pub inner-one : (n : ℕ) (e : Place) → n ≡ 1 → Types n e ≡ speltOf (spelledR o (take end buf) off)
+  pub inner-one : (n : ℕ) (e : Place) → n ≡ 1 → spelt.Types n e ≡ speltOf off (readSig o (take end buf) off)
       → Inside (record { 0 = off + 1 }) (record { 0 = e .0 - 1 - (off + 1) }) ≡ innerOf off (variantTypeR o (take end buf) off)
   unfolding single ret
   inner-one n e z h = let i = spelt-inv n e h in go (i .0) (i .1) (sym (i .2) ∙ z)
@@ -219,21 +249,15 @@ module _ (o : Order) (buf : List ℕ) (end off : ℕ) (w : Window buf end off) w
   unfolding single ret
   variant-at t e q =
       let i = spelled-inv o (take end buf) off (t ∷ []) e q in
-      let a = text-at o (take end buf) off (i .0) e (i .1) in
-      let le : length (take end buf) ≡ end = length-take-le end buf (w .held) in
-      let m : off + 1 + (e - 1 - (off + 1)) - (off + 1) ≡ length (i .0) = omega (arith, a .ends) in
-      let f : off + 1 + (e - 1 - (off + 1)) + 1 ≡ e = omega (arith, a .ends) in
-      let same : take (off + 1 + (e - 1 - (off + 1)) - (off + 1)) (drop (off + 1) buf) ≡ i .0 =
-      ap (λ (k : ℕ). take k (drop (off + 1) buf)) m ∙ sym (seen buf end (off + 1) (length (i .0)) (omega (arith, a .ends, a .within)) (w .held)) ∙ sym (a .is) in
-      let ty : TypeAt t (i .0) 0 (length (i .0)) = whole-type (i .2) in
+      let r = text-within o buf end off w (i .0) e (i .1) in
+      let n : off + 1 + (e - 1 - (off + 1)) - (off + 1) ≡ e - 1 - (off + 1) = omega arith in
+      let f : off + 1 + (e - 1 - (off + 1)) + 1 ≡ e = omega arith in
       record {
         past = omega arith;
-        within = omega (arith, a .ends, a .within);
+        within = omega arith;
         ty = t;
         reads = variant-type (t ∷ []) e q ∙ ap (λ (k : ℕ). got t k) (sym f);
-        stands =
-            subst (λ (k : ℕ). TypeAt t (take (off + 1 + (e - 1 - (off + 1)) - (off + 1)) (drop (off + 1) buf)) 0 k) (sym m)
-            (subst (λ (s : List ℕ). TypeAt t s 0 (length (i .0))) (sym same) ty);
+        stands = subst (λ (k : ℕ). TypeAt t (take k (drop (off + 1) buf)) 0 k) (sym n) (type-stands o buf end off w (i .0) e (i .1) t (i .2));
       }
 
   -- what a caller learns of it
@@ -264,20 +288,7 @@ module _ (o : Order) (buf : List ℕ) (end off : ℕ) (w : Window buf end off) w
         go (got t e) z = absurd (let y : Shut x ≡ Inside (record { 0 = off + 1 }) (record { 0 = e - 1 - (off + 1) }) = sym k ∙ h ∙ ap (innerOf off) z in let u : _≡_ {A = ℕ} 0 1 = cc in omega arith)
         go (fault y) z = let a : Shut x ≡ Shut y = sym k ∙ h ∙ ap (innerOf off) z in let u : y ≡ x = cc in z ∙ ap (λ (v : Refusal). fault v) u
 
-abbrev pub spelledTo : Spelt → Reached
-spelledTo (Types n e) = Reaches e
-spelledTo (Misspelt x) = Stopped x
-
-pub spelt-reached : (q : Spelt) (x : Res (List Ty)) → q ≡ speltOf x → spelledTo q ≡ reachedOf x
-spelt-reached q (got ts e) h = rw h
-spelt-reached q (fault x) h = rw h
-
 -- the place after a signature lies past its length byte and its zero
-pub inner-past : (o : Order) (buf : List ℕ) (end off : ℕ) → Window buf end off → (n : ℕ) (e : Place)
-    → Types n e ≡ speltOf (spelledR o (take end buf) off) → (off + 2 ≤ e .0) × (e .0 ≤ end)
-inner-past o buf end off w n e h =
-    let i = spelt-inv o buf end off w n e h in
-    let j = spelled-inv o (take end buf) off (i .0) (e .0) (i .1) in
-    let a = text-at o (take end buf) off (j .0) (e .0) (j .1) in
-    let l : length (take end buf) ≡ end = length-take-le end buf (w .held) in
-    (omega (arith, a .ends), omega (arith, a .within))
+pub spelt-within : (o : Order) (buf : List ℕ) (end off : ℕ) → Window buf end off → (n : ℕ) (e : Place)
+    → spelt.Types n e ≡ speltOf off (readSig o (take end buf) off) → (off + 2 ≤ e .0) × (e .0 ≤ end)
+spelt-within o buf end off w n e h = let i = spelt-says o (take end buf) off (spelt.Types n e) h in text-within o buf end off w (i .text) (e .0) (i .reads)

@@ -19,7 +19,7 @@ use Rattle.meaning.specs.Number.{load}
 use Rattle.meaning.specs.Text.{noZero, isPath}
 use Rattle.meaning.specs.Message.{exactly, wants}
 use Rattle.meaning.specs.Reader.{got, ret, _>>=_, _>>_, check, bytes, reachedOf}
-use Rattle.meaning.specs.ReadValue.{padding, readFix, readText, readSig, readPath, readG, accept, bareR, baseR}
+use Rattle.meaning.specs.ReadValue.{any, padding, readFix, readText, readSig, readPath, readG, accept, bareR, baseR}
 use Rattle.meaning.proofs.Local.{bind-got, bind-fault, bind-inv, ret-inv}
 use Rattle.meaning.proofs.Meets.{here-bind, bytes-bind-inv, check-bind-inv}
 use Rattle.meaning.proofs.BaseMeets.{accept-inv}
@@ -27,7 +27,6 @@ use Rattle.meaning.proofs.Loop.{at-inv, refused-inv}
 use Rattle.text.proofs.strings.Strings.{text-part}
 use Rattle.util.specs.Entry.{Window}
 use Rattle.util.proofs.Windows.{seen}
-use Rattle.basic.proofs.spelled.SpellLaws.{text-at}
 use Rattle.header.specs.declared.header_field.FieldRead.{FieldRead}
 use Rattle.header.specs.declared.header_field.FieldRead.the-variants as fieldRead
 use Rattle.meaning.specs.Header.{textEntry, entryAs}
@@ -56,14 +55,13 @@ path-ends o b p v e h =
     text-ends o b p v e (i .2 ∙ ap (λ (s : List ℕ). got s (i .1)) (w .0) ∙ ap (λ (k : ℕ). got v k) (w .1))
 
 spelling-ends : (o : Order) (b : List ℕ) (p : ℕ) (v : List ℕ) (e : ℕ) → readG o b p ≡ got v e → e ≡ p + 1 + (length v + 1)
-unfolding readG
+unfolding readG readSig
 spelling-ends o b p v e h =
     let i = bind-inv (readSig o) (λ s. accept (parse s) p >> ret s) b p v e (sym (here-bind (λ q. readSig o >>= λ s. accept (parse s) q >> ret s) b p) ∙ h) in
     let j = bind-inv (accept (parse (i .0)) p) (λ z. ret (i .0)) b (i .1) v e (i .3) in
     let m = accept-inv (parse (i .0)) p b (i .1) (j .0) (j .1) (j .2) in
     let w = ret-inv (i .0) b (j .1) v e (j .3) in
-    let a = text-at o b p v e (i .2 ∙ ap (λ (s : List ℕ). got s (i .1)) (w .0) ∙ ap (λ (k : ℕ). got v k) (m .1 ∙ w .1)) in
-    omega (arith, a .ends)
+    text-part o 1 any b p v e (i .2 ∙ ap (λ (s : List ℕ). got s (i .1)) (w .0) ∙ ap (λ (k : ℕ). got v k) (m .1 ∙ w .1)) .0
 
 -- a text that begins w bytes after p
 entry-is : (p w e : ℕ) (v : List ℕ) → e ≡ p + w + (length v + 1) → (p + w + 1 ≤ e) × (Text (record { 0 = p + w }) (record { 0 = e - 1 - (p + w) }) ≡ textEntry e v)

@@ -31,7 +31,7 @@ use Rattle.meaning.proofs.PlaceLaws.{lies, lies-fields, is-none, is-more, is-ba
 use Rattle.util.specs.Entry.{Window}
 use Rattle.validate_raw.specs.declared.walk.Spot.{Spot}
 use Rattle.validate_raw.specs.declared.walk.Walked.{Walked}
-use Rattle.validate_raw.specs.declared.walk.Walked.the-variants.{Past, Refused as Stopped}
+use Rattle.validate_raw.specs.declared.walk.Walked.the-variants as walked
 use Rattle.basic.specs.declared.spelled.Opened.{Opened}
 use Rattle.basic.specs.declared.spelled.Opened.the-variants.{Inside, Shut}
 use Rattle.validate_raw.specs.Head.{headR, openedOf}
@@ -109,10 +109,10 @@ single-walks o n s b i p q k t m ty h =
     h ∙ ap (λ (x : Item). walkedOf m (itemR o (readVar o n) x b p)) (sym (is-single ty k))
 
 -- a walk that got past a value, or not
-reached-past : {A : Type 0} (e : ℕ) (p : Spot) (q : Walked) (x : Res A) → q ≡ walkedOf e x → q ≡ Past p → (reachedOf x ≡ At (p .buf)) × (e ≡ p .sig .0)
+reached-past : {A : Type 0} (e : ℕ) (p : Spot) (q : Walked) (x : Res A) → q ≡ walkedOf e x → q ≡ walked.Past p → (reachedOf x ≡ At (p .buf)) × (e ≡ p .sig .0)
 reached-past e p q x h k = let i = past-inv e p x (sym h ∙ k) in (ap reachedOf (i .1), i .2)
 
-reached-stop : {A : Type 0} (e : ℕ) (y : Refusal) (q : Walked) (x : Res A) → q ≡ walkedOf e x → q ≡ Stopped y → reachedOf x ≡ Refused y
+reached-stop : {A : Type 0} (e : ℕ) (y : Refusal) (q : Walked) (x : Res A) → q ≡ walkedOf e x → q ≡ walked.Refused y → reachedOf x ≡ Refused y
 reached-stop e y q x h k = ap reachedOf (stopped-inv e y x (sym h ∙ k))
 
 -- a reader's turn, where the answer is a walk's
@@ -120,7 +120,7 @@ module _ {A : Type 0} (r : R A) (lr : Local r) (gr : Grows r) (buf : List ℕ) (
   abbrev part : List ℕ
   part = take stop buf
 
-  pub walk-moved : (o e : ℕ) (p : Spot) (q : Walked) → o ≤ stop → q ≡ walkedOf e (r part o) → q ≡ Past p → (o < p .buf .0) × (p .buf .0 ≤ stop) × (e ≡ p .sig .0)
+  pub walk-moved : (o e : ℕ) (p : Spot) (q : Walked) → o ≤ stop → q ≡ walkedOf e (r part o) → q ≡ walked.Past p → (o < p .buf .0) × (p .buf .0 ≤ stop) × (e ≡ p .sig .0)
   walk-moved o e p q h k l =
       let i = reached-past e p q (r part o) k l in
       let m = moved r lr gr buf stop held o (At (p .buf)) (p .buf) h (sym (i .0)) refl in
@@ -138,26 +138,26 @@ module _ (o : Order) (n : ℕ) (i : Item) (buf : List ℕ) (stop : ℕ) (held : 
   reader = itemR o (readVar o n) i
 
   module _ (p : ℕ) (w : itemsTo p) where
-    pub items-turned : (x : Spot) (q : Walked) → p < stop → q ≡ walkedOf e (reader (take stop buf) p) → q ≡ Past x → itemsTo (x .buf .0) × (x .sig .0 ≡ e)
+    pub items-turned : (x : Spot) (q : Walked) → p < stop → q ≡ walkedOf e (reader (take stop buf) p) → q ≡ walked.Past x → itemsTo (x .buf .0) × (x .sig .0 ≡ e)
     items-turned x q h k l =
         let z = reached-past e x q (reader (take stop buf) p) k l in
         (turned reader (item-local o n i) (item-grows o n i) buf stop held m first p (At (x .buf)) (x .buf) w h (sym (z .0)) refl, sym (z .1))
 
-    pub items-refused : (q : Walked) (x : Refusal) → p < stop → q ≡ walkedOf e (reader (take stop buf) p) → q ≡ Stopped x → Stopped x ≡ answer
+    pub items-refused : (q : Walked) (x : Refusal) → p < stop → q ≡ walkedOf e (reader (take stop buf) p) → q ≡ walked.Refused x → walked.Refused x ≡ answer
     items-refused q x h k l =
         let z = reached-stop e x q (reader (take stop buf) p) k l in
         ap (walkedTo e) (refused reader (item-local o n i) (item-grows o n i) buf stop held m first p (Refused x) x w h (sym z) refl)
         ∙ walked-to e (many m reader (take stop buf) first)
 
-    pub items-ended : (z : ℕ) → stop ≤ p → z ≡ e → Past (record { sig = record { 0 = z }; buf = record { 0 = p } }) ≡ answer
+    pub items-ended : (z : ℕ) → stop ≤ p → z ≡ e → walked.Past (record { sig = record { 0 = z }; buf = record { 0 = p } }) ≡ answer
     items-ended z h k =
         rw k (ap (walkedTo e) (ended reader (item-local o n i) (item-grows o n i) buf stop held m first p w h) ∙ walked-to e (many m reader (take stop buf) first))
 
-  pub items-none : (z : ℕ) → m ≡ stop - first → first ≡ stop → z ≡ e → Past (record { sig = record { 0 = z }; buf = record { 0 = stop } }) ≡ answer
+  pub items-none : (z : ℕ) → m ≡ stop - first → first ≡ stop → z ≡ e → walked.Past (record { sig = record { 0 = z }; buf = record { 0 = stop } }) ≡ answer
   items-none z c h k =
       let l : length (take stop buf) ≡ stop = length-take-le stop buf held in
       let y = ap (walkedOf e) (many-end m reader (take stop buf) first (omega arith)) in
-      rw k (sym (y ∙ ap (λ (x : ℕ). Past (record { sig = record { 0 = e }; buf = record { 0 = x } })) h))
+      rw k (sym (y ∙ ap (λ (x : ℕ). walked.Past (record { sig = record { 0 = e }; buf = record { 0 = x } })) h))
 
 -- Structs
 after-at : (r : Reached) → after r (λ p. At (record { 0 = p })) ≡ r
@@ -182,7 +182,7 @@ module _ {W : Type 0} (o : Order) (readW : R W) (b : List ℕ) where
 
   -- the alignment of a struct is what the code read from the table
   module _ (t : Ty) (fs : Tys) (is : t ≡ struct fs) (off e to : ℕ) (eight : to ≡ 8) where
-    pub struct-stop : (x : Refusal) → reachedOf (padding to b off) ≡ Refused x → Stopped x ≡ walkedOf e (read o readW t b off)
+    pub struct-stop : (x : Refusal) → reachedOf (padding to b off) ≡ Refused x → walked.Refused x ≡ walkedOf e (read o readW t b off)
     unfolding read
     struct-stop x h =
         let k : reachedOf (padding 8 b off) ≡ Refused x = rw eight at h in
@@ -213,10 +213,10 @@ module _ (o : Order) (n : ℕ) (s b : List ℕ) (e : ℕ) (w : Walked) where
     pub rest-start : i < length s
     rest-start = lies-fields (left .stands) .start
 
-    pub rest-close : getD s i 0 ≡ 41 → Past (record { sig = record { 0 = i + 1 }; buf = record { 0 = p } }) ≡ w
+    pub rest-close : getD s i 0 ≡ 41 → walked.Past (record { sig = record { 0 = i + 1 }; buf = record { 0 = p } }) ≡ w
     rest-close q =
         let y = is-none (left .stands) q in
-        ap (λ (x : ℕ). Past (record { sig = record { 0 = x }; buf = record { 0 = p } })) (sym (y .ends))
+        ap (λ (x : ℕ). walked.Past (record { sig = record { 0 = x }; buf = record { 0 = p } })) (sym (y .ends))
         ∙ subst (λ (x : List Ty). walkedTo e (fieldsTo o (readVar o n) x b p) ≡ w) (y .is) (left .answers)
 
     module _ (other : getD s i 0 ≡ 41 → ⊥) where
@@ -225,7 +225,7 @@ module _ (o : Order) (n : ℕ) (s b : List ℕ) (e : ℕ) (w : Walked) where
 
       -- a field, of which q is the answer
       module _ (q : Walked) (walks : (t : Ty) (m : ℕ) → TypeAt t s i m → q ≡ walkedOf m (read o (readVar o n) t b p)) where
-        pub rest-past : (x : Spot) → q ≡ Past x → (i < x .sig .0) × Rest (x .sig .0) (x .buf .0)
+        pub rest-past : (x : Spot) → q ≡ walked.Past x → (i < x .sig .0) × Rest (x .sig .0) (x .buf .0)
         rest-past x k =
             let y = is-more (left .stands) other in
             let a = past-inv (y .middle) x (read o (readVar o n) (y .first) b p) (sym (walks (y .first) (y .middle) (y .here)) ∙ k) in
@@ -238,7 +238,7 @@ module _ (o : Order) (n : ℕ) (s b : List ℕ) (e : ℕ) (w : Walked) where
               },
             )
 
-        pub rest-stop : (x : Refusal) → q ≡ Stopped x → Stopped x ≡ w
+        pub rest-stop : (x : Refusal) → q ≡ walked.Refused x → walked.Refused x ≡ w
         rest-stop x k =
             let y = is-more (left .stands) other in
             let a = stopped-inv (y .middle) x (read o (readVar o n) (y .first) b p) (sym (walks (y .first) (y .middle) (y .here)) ∙ k) in
@@ -247,7 +247,7 @@ module _ (o : Order) (n : ℕ) (s b : List ℕ) (e : ℕ) (w : Walked) where
 
 -- the bytes of that field lie ahead
 pub value-moved : (o : Order) (n : ℕ) (s buf : List ℕ) (end : ℕ) (held : end ≤ length buf) (i p : ℕ) (x : Spot) (q : Walked) → Typed s i
-    → ((t : Ty) (e : ℕ) → TypeAt t s i e → q ≡ walkedOf e (read o (readVar o n) t (take end buf) p)) → p ≤ end → q ≡ Past x → (p < x .buf .0) × (x .buf .0 ≤ end)
+    → ((t : Ty) (e : ℕ) → TypeAt t s i e → q ≡ walkedOf e (read o (readVar o n) t (take end buf) p)) → p ≤ end → q ≡ walked.Past x → (p < x .buf .0) × (x .buf .0 ≤ end)
 value-moved o n s buf end held i p x q y walks h k =
     let r = read o (readVar o n) (y .ty) in
     let a = walk-moved r (value-local o n (y .ty)) (value-grows o n (y .ty)) buf end held p (y .next) x q h (walks (y .ty) (y .next) (y .stands)) k in
@@ -286,7 +286,7 @@ module _ (o : Order) (n : ℕ) (buf : List ℕ) (end off : ℕ) (w : Window buf 
     fits : a ≡ alignItem (itemOf t)
     fits = ea ∙ element-align ty
 
-    pub array-shut : (x : Refusal) → q ≡ Shut x → Stopped x ≡ holding t
+    pub array-shut : (x : Refusal) → q ≡ Shut x → walked.Refused x ≡ holding t
     array-shut x g =
         shut-read o (alignItem (itemOf t)) (itemR o (readVar o n) (itemOf t)) seenPart off (wholeItem (itemOf t)) e x
         (opened a (alignItem (itemOf t)) q (Shut x) h g fits)
@@ -318,7 +318,7 @@ module _ (o : Order) (n : ℕ) (buf : List ℕ) (end off : ℕ) (w : Window buf 
           go (together c y v u every) = absurd (no-size c (sym v ∙ none))
 
       abbrev ending : ℕ → Walked
-      ending x = Past (record { sig = record { 0 = x }; buf = record { 0 = f .0 + l .0 } })
+      ending x = walked.Past (record { sig = record { 0 = x }; buf = record { 0 = f .0 + l .0 } })
 
       plainly : (c : Fix) → t ≡ base (fix c) → z ≡ size c → wholeItem (itemOf t) ≡ size c → ((x : ℕ) → T (valid c x)) → l .0 % z ≡ 0 → ending (at + 1) ≡ holding t
       unfolding read spell itemR
@@ -337,10 +337,10 @@ module _ (o : Order) (n : ℕ) (buf : List ℕ) (end off : ℕ) (w : Window buf 
           go (singly y each) = absurd (some y)
           go (together c y v u every) = plainly c y v u every d
 
-      pub array-ragged : (x : Refusal) → (z ≡ 0 → ⊥) → (l .0 % z ≡ 0 → ⊥) → x ≡ refusal NotEnoughBytes (f .0) → Stopped x ≡ holding t
+      pub array-ragged : (x : Refusal) → (z ≡ 0 → ⊥) → (l .0 % z ≡ 0 → ⊥) → x ≡ refusal NotEnoughBytes (f .0) → walked.Refused x ≡ holding t
       array-ragged x some d k = go is-tested
         where
-          go : Tested t z → Stopped x ≡ holding t
+          go : Tested t z → walked.Refused x ≡ holding t
           go (singly y each) = absurd (some y)
           go (together c y v u every) =
               rw k (ragged-read o (alignItem (itemOf t)) (itemR o (readVar o n) (itemOf t)) seenPart off f l inside (wholeItem (itemOf t)) e
@@ -358,7 +358,7 @@ module _ (o : Order) (n : ℕ) (u : Ty) (k : Base) (t : Ty) (is : u ≡ dict loo
   unfolding itemR
   entry-is = rw is (walked-to e (entryR o (readVar o n) k t b off))
 
-  pub entry-stop : (x : Refusal) → reachedOf (padding to b off) ≡ Refused x → Stopped x ≡ entryAnswer
+  pub entry-stop : (x : Refusal) → reachedOf (padding to b off) ≡ Refused x → walked.Refused x ≡ entryAnswer
   unfolding entryR
   entry-stop x h =
       let z : reachedOf (padding 8 b off) ≡ Refused x = rw eight at h in
@@ -372,7 +372,7 @@ module _ (o : Order) (n : ℕ) (u : Ty) (k : Base) (t : Ty) (is : u ≡ dict loo
         let i = at-inv (padding 8 b off) p z in
         bind-got (padding 8) (λ y. keyValue) b off (i .0) (p .0) (i .1)
 
-    pub entry-key : (x : Refusal) → reachedOf (baseR o k b (p .0)) ≡ Refused x → Stopped x ≡ entryAnswer
+    pub entry-key : (x : Refusal) → reachedOf (baseR o k b (p .0)) ≡ Refused x → walked.Refused x ≡ entryAnswer
     entry-key x g =
         let z = pair-at ∙ pair-fault (baseR o k) (read o (readVar o n) t) b (p .0) x (refused-inv (baseR o k b (p .0)) x g) in
         sym (ap (λ (y : Res (Held (pair k t) (Var n))). walkedTo e (reachedOf y)) z) ∙ entry-is
@@ -383,11 +383,11 @@ module _ (o : Order) (n : ℕ) (u : Ty) (k : Base) (t : Ty) (is : u ≡ dict loo
           let i = at-inv (baseR o k b (p .0)) v g in
           ap reachedOf pair-at ∙ pair-got (baseR o k) (read o (readVar o n) t) b (p .0) (i .0) (v .0) (i .1)
 
-      pub entry-past : (x : Spot) → q ≡ Past x → e ≡ d + 1 → Past (record { sig = record { 0 = x .sig .0 + 1 }; buf = record { 0 = x .buf .0 } }) ≡ entryAnswer
+      pub entry-past : (x : Spot) → q ≡ walked.Past x → e ≡ d + 1 → walked.Past (record { sig = record { 0 = x .sig .0 + 1 }; buf = record { 0 = x .buf .0 } }) ≡ entryAnswer
       entry-past x r z =
           let i = reached-past d x q (read o (readVar o n) t b (v .0)) walks r in
           let y : x .sig .0 + 1 ≡ e = sym (z ∙ ap (λ (j : ℕ). j + 1) (i .1)) in
-          ap (λ (j : ℕ). Past (record { sig = record { 0 = j }; buf = record { 0 = x .buf .0 } })) y ∙ sym (ap (walkedTo e) (value-at ∙ i .0)) ∙ entry-is
+          ap (λ (j : ℕ). walked.Past (record { sig = record { 0 = j }; buf = record { 0 = x .buf .0 } })) y ∙ sym (ap (walkedTo e) (value-at ∙ i .0)) ∙ entry-is
 
-      pub entry-value : (x : Refusal) → q ≡ Stopped x → Stopped x ≡ entryAnswer
+      pub entry-value : (x : Refusal) → q ≡ walked.Refused x → walked.Refused x ≡ entryAnswer
       entry-value x r = sym (ap (walkedTo e) (value-at ∙ reached-stop d x q (read o (readVar o n) t b (v .0)) walks r)) ∙ entry-is

@@ -25,7 +25,7 @@ use Rattle.meaning.proofs.Meets.{here-bind, padding-sound, length-pad}
 use Rattle.meaning.proofs.ValueMeets.{gap-al}
 use Rattle.meaning.proofs.Plain.{plain}
 use Rattle.validate_raw.specs.declared.walk.Walked.{Walked}
-use Rattle.validate_raw.specs.declared.walk.Walked.the-variants.{Past, Refused as Stopped}
+use Rattle.validate_raw.specs.declared.walk.Walked.the-variants as walked
 use Rattle.basic.specs.declared.spelled.Opened.the-variants.{Inside, Shut}
 use Rattle.basic.specs.Spelled.{spelledR, variantTypeR}
 use Rattle.validate_raw.specs.Head.{headR, openedOf}
@@ -41,22 +41,22 @@ pub walked-to : {A : Type 0} (n : ℕ) (x : Res A) → walkedTo n (reachedOf x) 
 walked-to n (got v e) = refl
 walked-to n (fault x) = refl
 
-pub past-inv : {A : Type 0} (n : ℕ) (p : Spot) (x : Res A) → walkedOf n x ≡ Past p → (v : A) × (x ≡ got v (p .buf .0)) × (n ≡ p .sig .0)
+pub past-inv : {A : Type 0} (n : ℕ) (p : Spot) (x : Res A) → walkedOf n x ≡ walked.Past p → (v : A) × (x ≡ got v (p .buf .0)) × (n ≡ p .sig .0)
 past-inv n p (got v e) h =
     let spot : Spot = record { sig = record { 0 = n }; buf = record { 0 = e } } in
     let z : spot ≡ p = cc in
     (v, ap (λ (q : Spot). got v (q .buf .0)) z, ap (λ (q : Spot). q .sig .0) z)
 past-inv n p (fault x) h = absurd (let z : _≡_ {A = ℕ} 0 1 = cc in omega arith)
 
-pub stopped-inv : {A : Type 0} (n : ℕ) (y : Refusal) (x : Res A) → walkedOf n x ≡ Stopped y → x ≡ fault y
+pub stopped-inv : {A : Type 0} (n : ℕ) (y : Refusal) (x : Res A) → walkedOf n x ≡ walked.Refused y → x ≡ fault y
 stopped-inv n y (got v e) h = absurd (let z : _≡_ {A = ℕ} 0 1 = cc in omega arith)
 stopped-inv {A} n y (fault x) h = let z : x ≡ y = cc in ap (λ (u : Refusal). fault u) z
 
 -- where a reader got to, as the code hands it on
-pub goes-past : (n : ℕ) (q : Reached) (p : Place) → q ≡ At p → Past (record { sig = record { 0 = n }; buf = p }) ≡ walkedTo n q
+pub goes-past : (n : ℕ) (q : Reached) (p : Place) → q ≡ At p → walked.Past (record { sig = record { 0 = n }; buf = p }) ≡ walkedTo n q
 goes-past n q p h = sym (ap (walkedTo n) h)
 
-pub goes-no : (n : ℕ) (q : Reached) (x : Refusal) → q ≡ Refused x → Stopped x ≡ walkedTo n q
+pub goes-no : (n : ℕ) (q : Reached) (x : Refusal) → q ≡ Refused x → walked.Refused x ≡ walkedTo n q
 goes-no n q x h = sym (ap (walkedTo n) h)
 
 -- what is done with a value once it is read changes no place
@@ -109,7 +109,7 @@ module _ (o : Order) {W : Type 0} (readW : R W) (b : List ℕ) where
 
 -- the elements in the n bytes from f on, whose reader is r
 module _ {A : Type 0} (o : Order) (a : ℕ) (r : R A) (b : List ℕ) (off : ℕ) where
-  pub shut-read : (w e : ℕ) (x : Refusal) → openedOf (length b) (headR o a b off) ≡ Shut x → Stopped x ≡ walkedOf e (arrayR o a w r b off)
+  pub shut-read : (w e : ℕ) (x : Refusal) → openedOf (length b) (headR o a b off) ≡ Shut x → walked.Refused x ≡ walkedOf e (arrayR o a w r b off)
   unfolding arrayR
   shut-read w e x h = sym (ap (walkedOf e) (array-shut o a b off (λ n. ReadValue.elements n w r) x h))
 
@@ -121,7 +121,7 @@ module _ {A : Type 0} (o : Order) (a : ℕ) (r : R A) (b : List ℕ) (off : ℕ)
     pub elements-read : (w e : ℕ) (q : Walked) → n .0 % w ≡ 0 → q ≡ walkedOf e (many (n .0) r (take (f .0 + n .0) b) (f .0)) → q ≡ walkedOf e (arrayR o a w r b off)
     elements-read w e q z k = k ∙ sym (ap (walkedOf e) (inside-is w ∙ elements-whole (n .0) w r (take (f .0 + n .0) b) (f .0) z))
 
-    pub ragged-read : (w e : ℕ) → (n .0 % w ≡ 0 → ⊥) → Stopped (refusal NotEnoughBytes (f .0)) ≡ walkedOf e (arrayR o a w r b off)
+    pub ragged-read : (w e : ℕ) → (n .0 % w ≡ 0 → ⊥) → walked.Refused (refusal NotEnoughBytes (f .0)) ≡ walkedOf e (arrayR o a w r b off)
     ragged-read w e z = sym (ap (walkedOf e) (inside-is w ∙ elements-ragged (n .0) w r (take (f .0 + n .0) b) (f .0) z))
 
 -- arrays that are only tested for a whole number of elements
@@ -134,7 +134,7 @@ module _ (o : Order) (c : Fix) (every : (x : ℕ) → T (valid c x)) (b : List �
       rw e (gap-al c (i .past))
 
   pub plain-read : (w e : ℕ) → w ≡ size c → n .0 % w ≡ 0
-      → Past (record { sig = record { 0 = e }; buf = record { 0 = f .0 + n .0 } }) ≡ walkedOf e (arrayR o (size c) w (baseR o (fix c)) b off)
+      → walked.Past (record { sig = record { 0 = e }; buf = record { 0 = f .0 + n .0 } }) ≡ walkedOf e (arrayR o (size c) w (baseR o (fix c)) b off)
   plain-read w e z k =
       let i = inside-inv o (size c) b off f n h in
       let d : n .0 % size c ≡ 0 = subst (λ (x : ℕ). n .0 % x ≡ 0) z k in
@@ -142,7 +142,7 @@ module _ (o : Order) (c : Fix) (every : (x : ℕ) → T (valid c x)) (b : List �
       let l : length (take s b) ≡ s = length-take-le s b (i .within) in
       let m : n .0 / size c * size c ≡ n .0 = whole-times c (n .0) d in
       let j = plain o c every (n .0 / size c) (n .0) (take s b) (f .0) aligned (omega arith) (times-le c (n .0)) in
-      let past : ℕ → Walked = λ x. Past (record { sig = record { 0 = e }; buf = record { 0 = x } }) in
+      let past : ℕ → Walked = λ x. walked.Past (record { sig = record { 0 = e }; buf = record { 0 = x } }) in
       elements-read o (size c) (baseR o (fix c)) b off f n h w e (past s) k (sym (ap (walkedOf e) (j .1) ∙ ap past l))
 
 -- variants: the type first, and then whatever is done with the contents
@@ -191,12 +191,12 @@ module _ (o : Order) (b : List ℕ) (off : ℕ) where
 
   module _ (n : ℕ) (t : Ty) (q : ℕ) (some : n ≡ 0 → ⊥) (typed : variantTypeR o b off ≡ got t q) (e : ℕ) (w : Walked)
       (answers : w ≡ walkedOf e (read o (readVar o (n - 1)) t b q)) where
-    pub variant-past : (p : Spot) → w ≡ Past p → At (record { 0 = p .buf .0 }) ≡ reachedOf (readVar o n b off)
+    pub variant-past : (p : Spot) → w ≡ walked.Past p → At (record { 0 = p .buf .0 }) ≡ reachedOf (readVar o n b off)
     variant-past p h =
         let i = past-inv e p (read o (readVar o (n - 1)) t b q) (sym answers ∙ h) in
         sym (variant-holds n t q some typed ∙ ap reachedOf (i .1))
 
-    pub variant-stop : (x : Refusal) → w ≡ Stopped x → Refused x ≡ reachedOf (readVar o n b off)
+    pub variant-stop : (x : Refusal) → w ≡ walked.Refused x → Refused x ≡ reachedOf (readVar o n b off)
     variant-stop x h =
         sym (variant-holds n t q some typed ∙ ap reachedOf (stopped-inv e x (read o (readVar o (n - 1)) t b q) (sym answers ∙ h)))
 
@@ -206,5 +206,5 @@ pub elements-basic : (o : Order) {W : Type 0} (readW : R W) (b : List ℕ) (m of
 unfolding read itemR
 elements-basic o readW b m off t c n e q h k l = rw (h, k, l) (walked-to n (many m (baseR o c) b off))
 
-pub past-next : {A : Type 0} (e : ℕ) (p : Spot) (q : Walked) (x : Res A) → q ≡ walkedOf e x → q ≡ Past p → p .sig .0 ≡ e
+pub past-next : {A : Type 0} (e : ℕ) (p : Spot) (q : Walked) (x : Res A) → q ≡ walkedOf e x → q ≡ walked.Past p → p .sig .0 ≡ e
 past-next e p q x h k = sym (past-inv e p x (sym h ∙ k) .2)

@@ -1,16 +1,11 @@
 -- The text is read, and the grammar checks the part of the buffer that holds it.
-use mathlib.Core.Path.{_≡_, sym, _∙_, ap}
+use mathlib.Core.Path.{sym, _∙_}
 use native.Mathlib.Omega.{arith}
 use Rattle.meaning.specs.declared.Order.the-variants.{Little}
-use Rattle.basic.proofs.spelled.SpellLaws.{spelt-stop, spelt-types, spelt-refused, text-within}
+use Rattle.basic.proofs.spelled.SpellLaws.{spelt-stop, spelt-types, spelt-refused, reached-within}
 use borrow.Author.Needs.{needs}
 use Rattle.basic.proofs.spelled.spelled_types.Statement.{statement}
 use Rattle.basic.proofs.spelled.spelled_types.Tie as tie
-use Rattle.basic.proofs.spelled.spelled_types.Reads as reads
-use Rattle.basic.proofs.spelled.spelled_types.Lts as lts
-use Rattle.meaning.proofs.moved.Reads as moved-reads
-use Rattle.signature.proofs.parse_description.Reads as parse-description-reads
-use Rattle.text.proofs.strings.read_signature_text.Reads as read-signature-text-reads
 
 read-signature-text-requires : tie.Need-read-signature-text-requires
 read-signature-text-requires c κs = search needs
@@ -23,22 +18,22 @@ add-first c = search needs
 
 sub-stop : tie.Need-sub-stop
 sub-stop c =
-    let r = text-within Little _ _ _ (c .before .before .before .before .before .pre) _ (sym (c .before .before .before .read-signature-text .ensures Little) ∙ c .before .place .given .1) in
+    let r = reached-within Little _ _ _ (c .before .before .before .before .before .pre) _ (sym (c .before .before .before .read-signature-text .ensures Little) ∙ c .before .place .given .1) in
     omega arith
 
 sub-parse-description : tie.Need-sub-parse-description
 sub-parse-description c =
-    let r = text-within Little _ _ _ (c .before .before .before .before .before .pre) _ (sym (c .before .before .before .read-signature-text .ensures Little) ∙ c .before .place .given .1) in
+    let r = reached-within Little _ _ _ (c .before .before .before .before .before .pre) _ (sym (c .before .before .before .read-signature-text .ensures Little) ∙ c .before .place .given .1) in
     omega arith
 
 part-parse-description-start : tie.Need-part-parse-description-start
 part-parse-description-start c =
-    let r = text-within Little _ _ _ (c .before .before .before .before .before .pre) _ (sym (c .before .before .before .read-signature-text .ensures Little) ∙ c .before .place .given .1) in
+    let r = reached-within Little _ _ _ (c .before .before .before .before .before .pre) _ (sym (c .before .before .before .read-signature-text .ensures Little) ∙ c .before .place .given .1) in
     omega arith
 
 part-parse-description-end : tie.Need-part-parse-description-end
 part-parse-description-end c =
-    let r = text-within Little _ _ _ (c .before .before .before .before .before .pre) _ (sym (c .before .before .before .read-signature-text .ensures Little) ∙ c .before .place .given .1) in
+    let r = reached-within Little _ _ _ (c .before .before .before .before .before .pre) _ (sym (c .before .before .before .read-signature-text .ensures Little) ∙ c .before .place .given .1) in
     omega arith
 
 parse-description-requires : tie.Need-parse-description-requires
