@@ -24,8 +24,8 @@ pub enum Opened {
 // a header field has its own refusal in place of the grammar's.
 pub enum Spelt {
     Types(usize, Place),
-    Unspelt(Refusal),
     Refused(Refusal),
+    Unspelt(Refusal),
 }
 
 // The types that the signature among the bytes at `off` spells: a value of type g, the head of a variant, and that of a header field.
