@@ -1,5 +1,6 @@
 #!/usr/bin/env python3
-"""Makes the sample capture faulty.dbus, which is also what the gate runs `inspect` on (crates/inspect/stdin).
+"""Makes the sample captures: faulty.dbus, which is also what the gate runs `inspect` on (crates/inspect/stdin), with a fault in a body, and
+header.dbus, with one in a header.
 
 A stream is messages back to back, as `dbus-monitor --binary` writes them and as one read may bring them.
 """
@@ -118,7 +119,19 @@ def faulty():
     return whole[:body] + struct.pack("<I", 13) + whole[body + 4 :]
 
 
+def faulty_header():
+    """The third message of the conversation, but its destination, of four bytes, states three: the byte after the text is not zero."""
+    whole = conversation()[2]
+    text = whole.index(b":1.7")
+    return whole[: text - 4] + struct.pack(">I", 3) + whole[text:]
+
+
+def write(name, messages):
+    # faulty.dbus is written through the link, to the file that the gate reads
+    with open(os.path.join(HERE, name), "wb") as file:
+        file.write(b"".join(messages))
+
+
 if __name__ == "__main__":
-    # written through the link, to the file that the gate reads
-    with open(os.path.join(HERE, "faulty.dbus"), "wb") as file:
-        file.write(b"".join(conversation() + kernings() + [faulty(), kern_signal(6, [(87, 97, -20)])]))
+    write("faulty.dbus", conversation() + kernings() + [faulty(), kern_signal(6, [(87, 97, -20)])])
+    write("header.dbus", conversation()[:2] + [faulty_header()] + conversation()[3:])

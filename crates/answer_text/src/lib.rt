@@ -30,8 +30,8 @@ pub fn labelled(out: &mut [u8], at: usize, word: &[u8], n: u64) -> usize
 fn spelled(out: &mut [u8], at: usize, word: &[u8], s: &[u8]) -> usize
     ensures { λ r. ⌜ Puts (now (out .entry)) at (now (word .entry) ∷ bytesText (now (s .entry)) ∷ []) r (now (out .exit)) ⌝ }
 {
-    let behind = text_out::put(out, at, word);
-    text_out::put_bytes(out, behind, s)
+    let start = text_out::put(out, at, word);
+    text_out::put_bytes(out, start, s)
 }
 
 fn accepted(out: &mut [u8], at: usize, n: usize) -> usize

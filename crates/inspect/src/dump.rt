@@ -112,8 +112,8 @@ fn last_of(size: usize, mark: usize) -> usize
     if mark < size { size - 1 } else { mark }
 }
 
-// The rows around the byte at `place` of a message that begins at the byte `first` of the stream. A fault at the place 0 may lie anywhere in
-// the head, so more of that is shown.
+// The rows around the byte at `place` of a message that begins at the byte `first` of the stream. A fault at the place 0 for which no other byte
+// is known may lie anywhere in the head, so more of that is shown.
 pub(crate) fn place(out: &mut Out, at: usize, message: &[u8], first: u64, place: usize) -> usize {
     let mark = least(place, message.len());
     let last = last_of(message.len(), mark);

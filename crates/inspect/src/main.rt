@@ -2,6 +2,7 @@
 // is refused why and where. After a refusal nothing vouches for where the next message begins, so it stops there, and says so.
 mod dump;
 mod fill;
+mod hint;
 mod refusals;
 mod says;
 mod shown;

@@ -3,12 +3,15 @@ use crate::Out;
 use crate::dump;
 use crate::fill::byte;
 use crate::fill::fill;
+use crate::hint;
+use crate::hint::Hint;
 use crate::shown::each;
 use crate::words;
 use meaning::Entry;
 use meaning::Fields;
 use meaning::Header;
 use meaning::Refusal;
+use std::num::wrapping_add_u64;
 
 // So many bytes of a text are shown.
 const SHOWN: usize = 200;
@@ -160,13 +163,107 @@ fn position(out: &mut Out, at: usize, place: u64, first: u64) -> usize {
             &numbers,
         );
     }
-    let numbers = [place, std::num::wrapping_add_u64(first, place)];
+    let numbers = [place, wrapping_add_u64(first, place)];
     fill(
         out,
         at,
         b"    position # in the message, byte # of the stream\n",
         &numbers,
     )
+}
+
+// Opens a hint, with words that set it apart from the lines above.
+fn lead(out: &mut Out, at: usize) -> usize {
+    text_out::put(out, at, b"    hint, not part of the proved answer: ")
+}
+
+// Opens a hint that names a byte; the template has its place in the message and in the stream.
+fn look(out: &mut Out, at: usize, template: &[u8], first: u64, byte: u64) -> usize {
+    let behind = lead(out, at);
+    let numbers = [byte, wrapping_add_u64(first, byte)];
+    fill(out, behind, template, &numbers)
+}
+
+fn look_at(out: &mut Out, at: usize, first: u64, byte: u64) -> usize {
+    let template = b"look at byte # of the message (byte # of the stream), ";
+    look(out, at, template, first, byte)
+}
+
+// The fault of a value has the place where the value begins, and may lie further on.
+fn look_from(out: &mut Out, at: usize, first: u64, byte: u64) -> usize {
+    let template = b"look from byte # of the message (byte # of the stream) on, ";
+    look(out, at, template, first, byte)
+}
+
+fn is_known(code: u64) -> bool {
+    if code == 0 { false } else { code < 10 }
+}
+
+// A known header field by its name and its code, another by its code.
+fn the_field(out: &mut Out, at: usize, code: u64) -> usize {
+    if is_known(code) {
+        let numbers = [wrapping_add_u64(words::FIELDS, code), code];
+        return fill(out, at, b"the header field @ (code #)", &numbers);
+    }
+    let numbers = [code];
+    fill(out, at, b"the header field with the code #", &numbers)
+}
+
+fn hint_at_byte(out: &mut Out, at: usize, first: u64, byte: u64, what: u64) -> usize {
+    let behind = look_at(out, at, first, byte);
+    let numbers = [what];
+    fill(out, behind, b"@\n", &numbers)
+}
+
+// A fault in a field, at its first byte or further inside.
+fn hint_in_field(out: &mut Out, at: usize, first: u64, code: u64, begin: u64, byte: u64) -> usize {
+    let looked = look_from(out, at, first, byte);
+    if byte == begin {
+        let begun = text_out::put(out, looked, b"where ");
+        let named = the_field(out, begun, code);
+        return text_out::put(out, named, b" begins\n");
+    }
+    let inside = text_out::put(out, looked, b"in ");
+    let named = the_field(out, inside, code);
+    let numbers = [begin];
+    fill(
+        out,
+        named,
+        b" that begins at byte # of the message\n",
+        &numbers,
+    )
+}
+
+fn hint_twice(out: &mut Out, at: usize, first: u64, code: u64, byte: u64) -> usize {
+    let looked = look_at(out, at, first, byte);
+    let begun = text_out::put(out, looked, b"where ");
+    let named = the_field(out, begun, code);
+    text_out::put(out, named, b" begins a second time\n")
+}
+
+fn hint_absent(out: &mut Out, at: usize, code: u64, kind: u64) -> usize {
+    let led = lead(out, at);
+    let named = the_field(out, led, code);
+    let numbers = [kind];
+    fill(
+        out,
+        named,
+        b" is absent, which a message of the type @ needs\n",
+        &numbers,
+    )
+}
+
+// Where to look for a fault that has the position 0, as far as that was found.
+fn hinted(out: &mut Out, at: usize, first: u64, hint: Hint) -> usize {
+    match hint {
+        Hint::Nothing => at,
+        Hint::Byte(byte, what) => hint_at_byte(out, at, first, byte as u64, what),
+        Hint::Field(code, begin, byte) => {
+            hint_in_field(out, at, first, code as u64, begin as u64, byte as u64)
+        }
+        Hint::Twice(code, byte) => hint_twice(out, at, first, code as u64, byte as u64),
+        Hint::Absent(code, kind) => hint_absent(out, at, code as u64, words::of_type(kind)),
+    }
 }
 
 // A refusal without the message's number and place; `message` is what is there of the message.
@@ -183,7 +280,9 @@ pub(crate) fn refused(
     let numbers = [code, words::REFUSALS + code];
     let named = fill(out, at, b"REFUSED\n    refusal #, @\n", &numbers);
     let placed = position(out, named, place.0 as u64, first);
-    dump::place(out, placed, message, first, place.0)
+    let found = hint::of(message, refusal);
+    let behind = hinted(out, placed, first, found);
+    dump::place(out, behind, message, first, hint::mark(found, place.0))
 }
 
 // A message of which `there` bytes are there, and the stream ends; its size is 16 while that is not stated.

@@ -1,4 +1,8 @@
 -- The position, then the number of the fault.
+use mathlib.Core.Path.{_≡_}
+use mathlib.Core.List.{[], _∷_}
+use Rattle.text_out.specs.Digits.{decimal}
+use Rattle.text_out.specs.Puts.{putAll}
 use Rattle.text_out.proofs.PutLaws.{then}
 use borrow.Author.Needs.{needs}
 use Rattle.answer_text.proofs.refused.Statement.{statement}
@@ -6,8 +10,11 @@ use Rattle.answer_text.proofs.refused.Tie as tie
 
 returns : tie.Need-returns
 returns c =
-    let p = c .before .before .before .before .before .before .before .before .labelled .ensures in
-    then p (rw (c .before .before .before .number .ensures) at (c .before .before .labelled2 .ensures))
+    let a = c .before .before .before .before .before .before .before .before .before .before .before .before .before .args in
+    let no = c .before .before .before .before .before .before .before .before .labelled in
+    let place : no .result ≡ putAll (a .out .now) (a .at) ((110 ∷ 111 ∷ 32 ∷ []) ∷ decimal (a .r .place .0) ∷ []) .place = no .ensures .place in
+    then (record { place = place; after = no .ensures .after })
+    (rw (c .before .before .before .number .ensures) at (c .before .before .labelled2 .ensures))
 
 pub refused-spec : {M : Type 1} → statement M
 refused-spec =

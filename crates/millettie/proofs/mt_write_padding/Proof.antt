@@ -11,7 +11,8 @@ returns : tie.Need-returns
 returns c =
     let w = c .before .before .before in
     let a = w .before .before .before .args in
-    handed (λ o. paddingBytes (a .alignment) (a .place)) _ (a .place) {o = Little} refl (w .pad-to-align .ensures) (c .of-written .ensures)
+    let e = w .pad-to-align .ensures in
+    handed (λ o. paddingBytes (a .alignment) (a .place)) (a .buf .now) (a .place) {o = Little} refl (e .0, e .1) (c .of-written .ensures)
 
 pub mt-write-padding-spec : {M : Type 1} → statement M
 mt-write-padding-spec =

@@ -15,7 +15,8 @@ returns : tie.Need-returns
 returns c =
     let w = c .before .before .before in
     let a = w .before .before .before .before .before .args in
-    handed (λ o. stringBytes o (a .text .now)) _ (a .place) (w .before .before .order .ensures) (w .write-string .ensures) (c .of-written .ensures)
+    let e = w .write-string .ensures in
+    handed (λ o. stringBytes o (a .text .now)) (a .buf .now) (a .place) (w .before .before .order .ensures) (e .0, e .1) (c .of-written .ensures)
 
 pub mt-write-string-spec : {M : Type 1} → statement M
 mt-write-string-spec = tie.close (tie.spec (λ c. search needs) (λ c. search needs) of-written-requires (λ c. search needs) returns)

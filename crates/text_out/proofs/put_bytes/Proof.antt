@@ -16,7 +16,8 @@ returns-2 c =
     let i = c .before .before .before .before .before .before in
     let a = i .before .before .before .args in
     rw (some-text (a .s .now) (i .if1 .left))
-    (fitting (a .out .now) (hexText (a .s .now)) _ (a .at) _ (omega (arith, length-hex (a .s .now))) (rw length-hex) (c .before .before .pair .ensures))
+    (fitting (a .out .now) (hexText (a .s .now)) _ (a .at) _ (omega (arith, length-hex (a .s .now)))
+    (omega (arith, length-hex (a .s .now))) (c .before .before .pair .ensures))
 
 returns-3 : tie.Need-returns-3
 returns-3 c =

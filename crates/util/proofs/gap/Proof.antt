@@ -8,15 +8,15 @@ use Rattle.util.proofs.gap.Tie as tie
 
 returns : tie.Need-returns
 unfolding gap
-returns c = rw (c .if1 .taken)
+returns c = rw (c .if1 .taken) (omega arith)
 
 returns-2 : tie.Need-returns-2
 unfolding gap
-returns-2 c = rw (c .if2 .taken)
+returns-2 c = rw (c .if2 .taken) (omega arith)
 
 returns-3 : tie.Need-returns-3
 unfolding gap
-returns-3 c = rw (c .if3 .taken)
+returns-3 c = rw (c .if3 .taken) (omega arith)
 
 returns-4 : tie.Need-returns-4
 unfolding gap

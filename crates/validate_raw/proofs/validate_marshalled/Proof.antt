@@ -63,7 +63,8 @@ returns c =
     let c-value = c .before .before .before .value in
     let c-past = c .before .past in
     let one = single _ _ (sym (c-n .given .1) ∙ c-parse-description .ensures) (c-if1 .taken) in
-    value-past _ _ _ _ one (c-if2 .taken) _ (c-value .ensures) _ (c-past .given .1) .1
+    let a = c .before .before .before .before .before .before .before .before .before .before .before .before .args in
+    value-past _ _ (a .buf .now) _ one (c-if2 .taken) _ (c-value .ensures) _ (c-past .given .1) .1
 
 returns-2 : tie.Need-returns-2
 returns-2 c =

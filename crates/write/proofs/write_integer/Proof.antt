@@ -1,5 +1,6 @@
 -- The tests are those of `writeAt`, in its order.
 use mathlib.Core.Path.{refl, sym}
+use Rattle.meaning.specs.Writers.{integerBytes}
 use Rattle.meaning.proofs.NumberLaws.{length-store}
 use Rattle.write.proofs.store.Writes.{outside, is-bytes, no-room, stored}
 use borrow.Author.Needs.{needs}
@@ -18,7 +19,11 @@ returns-3 : tie.Need-returns-3
 returns-3 c =
     let room = c .before .before .before .before in
     let within = room .before .if1 .left in
-    is-bytes _ _ _ within _ refl _ _ (stored _ _ within _ _ (sym (length-store _ _ _)) (room .if2 .left) _ refl _ (c .before .before .store .ensures))
+    let a = c .before .before .before .before .before .before .before .args in
+    let content = integerBytes (a .order) (a .width) (a .x) in
+    let met = is-bytes content (a .buf .now) (a .at) within _ refl _ _
+    (stored _ _ within _ _ (sym (length-store _ _ _)) (room .if2 .left) _ refl _ (c .before .before .store .ensures)) in
+    (met .0, met .1)
 
 pub write-integer-spec : {M : Type 1} → statement M
 write-integer-spec =

@@ -1,4 +1,5 @@
 -- For each type of message the tests are its list of codes.
+use mathlib.Core.Path.{refl}
 use Rattle.header.proofs.header_fields.SeenLaws.{and-true}
 use borrow.Author.Tests.{le-leb, lt-leb}
 use Rattle.header.specs.HeaderFields.{present}
@@ -68,11 +69,11 @@ returns-6 c = simp (c .before .before .enum-told4 .given .1, lt-leb _ _ (c .if3 
 
 returns-7 : tie.Need-returns-7
 unfolding present
-returns-7 c = simp (c .before .before .before .before .enum-told4 .given .1, le-leb _ _ (c .before .before .if3 .left), lt-leb _ _ (c .if4 .taken))
+returns-7 c = simp (c .before .before .before .before .enum-told4 .given .1, le-leb _ _ (c .before .before .if3 .left), lt-leb _ _ (c .if4 .taken)) refl
 
 returns-8 : tie.Need-returns-8
 unfolding present
-returns-8 c = simp (c .before .before .before .before .before .enum-told4 .given .1, le-leb _ _ (c .before .before .before .if3 .left), le-leb _ _ (c .before .if4 .left), and-true)
+returns-8 c = simp (c .before .before .before .before .before .enum-told4 .given .1, le-leb _ _ (c .before .before .before .if3 .left), le-leb _ _ (c .before .if4 .left), and-true) refl
 
 pub required-spec : {M : Type 1} → statement M
 required-spec =

@@ -7,7 +7,7 @@ use Rattle.text.proofs.strings.read_string.Tie as tie
 
 returns : tie.Need-returns
 unfolding readText
-returns c = no-field _ _ _ _ _ _ (c .before .before .before .pre .held) (c .before .before .before .pre .inside) (c .before .if1 .taken) _ (c .refuse .ensures)
+returns c = no-field _ 4 _ _ _ _ (c .before .before .before .pre .held) (c .before .before .before .pre .inside) (c .before .if1 .taken) _ (c .refuse .ensures)
 
 returns-2 : tie.Need-returns-2
 unfolding readText

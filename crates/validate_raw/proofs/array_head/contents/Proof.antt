@@ -52,7 +52,8 @@ returns-3 c =
     let c-padded = c .before .before .before .before .padded in
     let c-place = c .before .before .place in
     let r = padded-within _ _ _ _ _ _ (c-pre .0) (c-padded .ensures) (c-place .given .1) in
-    lying-inside _ _ _ _ _ (length-take-le _ _ (c-pre .0 .held)) (omega arith) _ (sym (c-padded .ensures) ∙ c-place .given .1) (omega arith)
+    let a = c .before .before .before .before .before .before .before .args in
+    lying-inside _ (a .len) _ _ _ (length-take-le _ _ (c-pre .0 .held)) (omega arith) _ (sym (c-padded .ensures) ∙ c-place .given .1) (omega arith)
 
 returns-4 : tie.Need-returns-4
 returns-4 c =

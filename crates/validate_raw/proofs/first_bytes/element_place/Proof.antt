@@ -13,7 +13,7 @@ add-result : tie.Need-add-result
 add-result c = search needs
 
 returns : tie.Need-returns
-returns c = sym (place-array _ _ (c .if1 .taken))
+returns c = let a = c .before .before .args in sym (place-array (a .sig .now) (a .at) (c .if1 .taken))
 
 returns-2 : tie.Need-returns-2
 returns-2 c = sym (place-other _ _ (c .if1 .left))

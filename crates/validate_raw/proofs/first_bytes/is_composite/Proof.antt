@@ -1,5 +1,6 @@
 -- Each code is tested for in turn.
-use borrow.Author.Tests.{eq-eqb, ne-eqb}
+use mathlib.Core.Path.{refl}
+use borrow.Author.Tests.{ne-eqb}
 use Rattle.validate_raw.specs.FirstBytes.{composite}
 use Rattle.validate_raw.proofs.first_bytes.is_composite.Statement.{statement}
 use Rattle.validate_raw.proofs.first_bytes.is_composite.Tie as tie
@@ -8,15 +9,15 @@ use Rattle.validate_raw.proofs.first_bytes.is_composite.Lts as lts
 
 returns : tie.Need-returns
 unfolding composite
-returns c = rw (c .if1 .taken)
+returns c = rw (c .if1 .taken) refl
 
 returns-2 : tie.Need-returns-2
 unfolding composite
-returns-2 c = simp (ne-eqb _ _ (c .before .if1 .left), eq-eqb _ _ (c .if2 .taken))
+returns-2 c = rw (c .if2 .taken) refl
 
 returns-3 : tie.Need-returns-3
 unfolding composite
-returns-3 c = simp (ne-eqb _ _ (c .before .before .if1 .left), ne-eqb _ _ (c .before .if2 .left), eq-eqb _ _ (c .if3 .taken))
+returns-3 c = rw (c .if3 .taken) refl
 
 returns-4 : tie.Need-returns-4
 unfolding composite

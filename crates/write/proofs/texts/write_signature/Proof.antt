@@ -25,10 +25,13 @@ put-sized-requires c κs =
 
 returns-2 : tie.Need-returns-2
 returns-2 c =
-    let s = c .before .before .before .before .before .before .before .before .before .before .args .val .now in
+    let a = c .before .before .before .before .before .before .before .before .before .before .args in
+    let s = a .val .now in
+    let inside = c .before .before .before .before .before .before .before .if1 .left in
+    let put = c .before .before .put-sized .ensures in
     let e = sym (c .before .before .before .before .enum-told .given .1) ∙ c .before .before .before .before .before .before .parse-description .ensures in (
-      λ o. is-bytes (signatureBytes o s) _ _ (c .before .before .before .before .before .before .before .if1 .left) _ (is-signature o s _ e) _ _ (c .before .before .put-sized .ensures) .0,
-      λ o. is-bytes (signatureBytes o s) _ _ (c .before .before .before .before .before .before .before .if1 .left) _ (is-signature o s _ e) _ _ (c .before .before .put-sized .ensures) .1,
+      λ o. is-bytes (signatureBytes o s) (a .buf .now) (a .place .0) inside _ (is-signature o s _ e) _ _ (put .0, put .1) .0,
+      λ o. is-bytes (signatureBytes o s) (a .buf .now) (a .place .0) inside _ (is-signature o s _ e) _ _ (put .0, put .1) .1,
     )
 
 returns-3 : tie.Need-returns-3
