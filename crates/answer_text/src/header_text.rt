@@ -2,14 +2,13 @@
 ghost use mathlib.Core.Path.{_≡_};
 ghost use Prim.Native.Nat.{_<_};
 ghost use lib.ListN.{getD};
-ghost use Rattle.meaning.specs.Message.{mark as markOf, kindCode};
+ghost use Rattle.meaning.specs.Message.{mark as markOf};
 ghost use Rattle.text_out.specs.Puts.{Puts};
 ghost use Rattle.answer_text.specs.Headers.{markTexts, numbersOf, numberTexts, entryTexts, entriesOf, eachTexts, headTexts, wholeTexts, headerTexts};
 use meaning::Entry;
 use meaning::Fields;
 use meaning::Header;
 use meaning::HeaderRead;
-use meaning::MessageType;
 use meaning::Order;
 
 fn mark_of(h: Header) -> u8
@@ -22,17 +21,6 @@ fn mark_of(h: Header) -> u8
     }
 }
 
-fn code_of(kind: MessageType) -> u64
-    ensures { λ r. ⌜ r ≡ kindCode kind ⌝ }
-{
-    match kind {
-        MessageType::Call => 1,
-        MessageType::Reply => 2,
-        MessageType::Error => 3,
-        MessageType::Signal => 4,
-    }
-}
-
 // The numbers of a header, in the order in which they are said.
 fn number_at(h: Header, i: usize) -> u64
     requires { ⌜ i < 6 ⌝ }
@@ -42,7 +30,7 @@ fn number_at(h: Header, i: usize) -> u64
     let body = h.body;
     let size = h.body_length;
     let all = [
-        code_of(kind),
+        meaning::kind_code(kind) as u64,
         h.flags as u64,
         h.version as u64,
         h.serial as u64,

@@ -114,7 +114,7 @@ fn form(out: &mut Out, at: usize, header: Header) -> usize {
     let order = header.order;
     let length = header.length;
     let numbers = [
-        words::of_kind(kind),
+        words::of_type(meaning::kind_code(kind)),
         words::of_order(order),
         length.0 as u64,
         header.serial as u64,

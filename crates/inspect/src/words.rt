@@ -1,7 +1,6 @@
 // Words for what stands in a message, and for the refusals.
 use crate::Out;
 use crate::refusals;
-use meaning::MessageType;
 use meaning::Order;
 use std::num::wrapping_add_u64;
 
@@ -39,16 +38,6 @@ pub(crate) const FIELDS: u64 = 14;
 pub(crate) const REFUSALS: u64 = 24;
 
 // The numbers of the words for a message's kind, its byte order, how a message can be cut off and how a stream can end.
-pub(crate) fn of_kind(kind: MessageType) -> u64 {
-    match kind {
-        MessageType::Call => 0,
-        MessageType::Reply => 1,
-        MessageType::Error => 2,
-        MessageType::Signal => 3,
-    }
-}
-
-// The same by the number that a message states for its type.
 pub(crate) fn of_type(number: u8) -> u64 {
     match number {
         1 => 0,

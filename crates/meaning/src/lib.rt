@@ -2,6 +2,7 @@
 // What they mean stands in specs/.
 ghost use mathlib.Core.Path.{_≡_};
 ghost use Rattle.meaning.specs.Faults.{numberOf, refusal, moved};
+ghost use Rattle.meaning.specs.Message.{kindCode};
 
 pub enum Order {
     Little,
@@ -195,5 +196,17 @@ pub fn moved(refusal: Refusal, to: usize) -> Refusal
     Refusal {
         fault: kept,
         place: Place(to),
+    }
+}
+
+// The number that a message states for its type.
+pub fn kind_code(kind: MessageType) -> u8
+    ensures { λ r. ⌜ r ≡ kindCode kind ⌝ }
+{
+    match kind {
+        MessageType::Call => 1,
+        MessageType::Reply => 2,
+        MessageType::Error => 3,
+        MessageType::Signal => 4,
     }
 }

@@ -1,6 +1,5 @@
 // The structs that C and Rust get, made of the answers of the proved crates. include/millettie.h has the same structs.
 ghost use mathlib.Core.Path.{_≡_};
-ghost use Rattle.meaning.specs.Message.{kindCode};
 ghost use Rattle.structs.specs.Answers.{orderOf, isBig, accepted as acceptedOf, refused as refusedOf, answerOf, countOf, Past, writtenOf, entryOf, fieldsOf, noFields, headerOf, readOf, partOf};
 use meaning::Checked;
 use meaning::Counted;
@@ -8,7 +7,6 @@ use meaning::Entry;
 use meaning::Fields;
 use meaning::Header;
 use meaning::HeaderRead;
-use meaning::MessageType;
 use meaning::Order;
 use meaning::Refusal;
 use meaning::Written;
@@ -129,17 +127,6 @@ pub fn of_written(from: usize, written: Written) -> MtAnswer
     }
 }
 
-fn of_kind(kind: MessageType) -> u8
-    ensures { λ r. ⌜ r ≡ kindCode kind ⌝ }
-{
-    match kind {
-        MessageType::Call => 1,
-        MessageType::Reply => 2,
-        MessageType::Error => 3,
-        MessageType::Signal => 4,
-    }
-}
-
 fn of_entry(entry: Entry) -> MtEntry
     ensures { λ r. ⌜ r ≡ entryOf entry ⌝ }
 {
@@ -215,7 +202,7 @@ fn of_header(header: Header) -> MtHeader
     MtHeader {
         answer: accepted(length.0),
         big: is_big(order),
-        kind: of_kind(kind),
+        kind: meaning::kind_code(kind),
         flags: header.flags,
         version: header.version,
         serial: header.serial,

@@ -20,7 +20,7 @@ returns : tie.Need-returns
 returns c =
     let args = c .before .before .before .before .before .before .before .before .args in
     let accepted = c .before .before .before .accepted in
-    made (args .header) (accepted .ensures) (c .before .before .is-big .ensures) (c .before .of-kind .ensures) (c .of-fields .ensures)
+    made (args .header) (accepted .ensures) (c .before .before .is-big .ensures) (c .before .kind-code .ensures) (c .of-fields .ensures)
 
 pub of-header-spec : {M : Type 1} → statement M
 of-header-spec = tie.close (tie.spec (λ c. search needs) (λ c. search needs) (λ c. search needs) (λ c. search needs) returns)
