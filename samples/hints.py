@@ -10,6 +10,7 @@ import struct
 import subprocess
 import sys
 
+sys.dont_write_bytecode = True
 from make import CALL, ERROR, HERE, MEMBER, PATH, REPLY, SIGNAL, message
 
 BEFORE = message("l", CALL, 1, [(PATH, "/a"), (MEMBER, "M")])
