@@ -71,7 +71,7 @@ fn tested(order: Order, k: u8, buf: &[u8], end: usize, off: usize) -> Reached
 // A number of `size` bytes, aligned to them, of which any bits are a value.
 fn number(buf: &[u8], end: usize, off: usize, size: usize) -> Reached
     requires window { Window buf.now end off }
-    requires t { T (is_alignment size) }
+    requires alignment { T (is_alignment size) }
     ensures { (o : Order) (c : Fix) → AnyBits c → size ≡ size_of c → result ≡ reached_of (base_r o (Base.fix c) (take end buf.now) off) }
 {
     match util::padded(buf, end, off, size) {

@@ -47,7 +47,7 @@ fn zeros(buf: &[u8], from: usize, count: usize) -> bool
 // The place after the padding, of a reader that sees nothing from `end` on.
 pub fn padded(buf: &[u8], end: usize, off: usize, align: usize) -> Reached
     requires window { Window buf.now end off }
-    requires t { T (is_alignment align) }
+    requires alignment { T (is_alignment align) }
     ensures { result ≡ reached_of (padding align (take end buf.now) off) }
 {
     let count = gap(align, off);

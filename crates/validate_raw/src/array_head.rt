@@ -11,7 +11,7 @@ use util::integers;
 // Where an array's contents lie whose length is `len`, from the place after its length field on.
 fn contents(buf: &[u8], end: usize, off: usize, len: usize, align: usize) -> Opened
     requires window { Window buf.now end off }
-    requires t { T (is_alignment align) }
+    requires alignment { T (is_alignment align) }
     ensures { result ≡ opened_of end (lying_r align len (take end buf.now) off) }
 {
     if end - off < len {
@@ -33,7 +33,7 @@ fn contents(buf: &[u8], end: usize, off: usize, len: usize, align: usize) -> Ope
 // Where the contents of the array at `off` lie, whose elements are aligned to `align`.
 pub fn opening(order: Order, buf: &[u8], end: usize, off: usize, align: usize) -> Opened
     requires window { Window buf.now end off }
-    requires t { T (is_alignment align) }
+    requires alignment { T (is_alignment align) }
     ensures { result ≡ opened_of end (head_r order align (take end buf.now) off) }
 {
     match util::padded(buf, end, off, types::align(b'a')) {

@@ -71,7 +71,7 @@ pub fn value(order: Order, sig: &[u8], buf: &[u8], end: usize, at: Spot, left: L
 #[cycle(array_composites_element_elements_entry_fields_structure_value_variant)]
 fn structure(order: Order, sig: &[u8], buf: &[u8], end: usize, at: Spot, left: Left) -> Walked
     requires typed { Typed sig.now at.sig.0 }
-    requires sig_value { get_or sig.now at.sig.0 0 ≡ 40 }
+    requires bracket { get_or sig.now at.sig.0 0 ≡ 40 }
     requires window { Window buf.now end at.buf.0 }
     ensures { (t : Ty) (e : ℕ) → TypeAt t sig.now at.sig.0 e →
         result ≡ walked_of e (read order (read_var order left.levels) t (take end buf.now) at.buf.0) }
@@ -276,7 +276,7 @@ fn element(order: Order, sig: &[u8], buf: &[u8], end: usize, at: Spot, left: Lef
 #[cycle(array_composites_element_elements_entry_fields_structure_value_variant)]
 fn entry(order: Order, sig: &[u8], buf: &[u8], end: usize, at: Spot, left: Left) -> Walked
     requires typed { Typed sig.now at.sig.0 }
-    requires sig_value { get_or sig.now at.sig.0 0 ≡ 123 }
+    requires bracket { get_or sig.now at.sig.0 0 ≡ 123 }
     requires window { Window buf.now end at.buf.0 }
     ensures { (t : Ty) (e : ℕ) → TypeAt t sig.now at.sig.0 e →
         result ≡ walked_of e (item_r order (read_var order left.levels) (item_of t) (take end buf.now) at.buf.0) }

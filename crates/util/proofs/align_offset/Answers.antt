@@ -1,0 +1,29 @@
+-- The tests are those of `check_padding`, in its order; the rest is `padded` on the whole buffer.
+use mathlib.Core.Path.{sym, ◌∙◌}
+use Rattle.meaning.specs.ReadValue.{padding}
+use Rattle.meaning.proofs.ValueLocal.{padding-local}
+use Rattle.util.proofs.Windows.{entry_past}
+use Rattle.util.proofs.Pads.{outside, no-alignment, aligned}
+use borrow.Author.Rules.{rules}
+use Rattle.util.proofs.align_offset.Goals as goal
+
+pub returns-then-buf-off : goal.returns-then-buf-off
+returns-then-buf-off c = outside _ _ _ c.if-buf-off.true _ c.refuse.ensures
+
+pub padded-requires : goal.padded-requires
+padded-requires c = record { window = record { inside = search rules; held = search rules }; alignment = rw (sym c.is_alignment.ensures ∙ c.if-is_alignment.true) tt }
+
+pub taken_from-requires : goal.taken_from-requires
+taken_from-requires c =
+    let a = c.args in
+    let if1 = c.if-buf-off in
+    entry_past (padding a.align) (padding-local a.align).bound a.buf.now a.offset.0 _ if1.false c.padded.ensures
+
+pub returns-then-is_alignment : goal.returns-then-is_alignment
+returns-then-is_alignment c =
+    let if1 = c.if-buf-off in
+    let is-alignment = c.is_alignment in
+    c.taken_from.ensures ∙ aligned _ _ _ _ if1.false (sym is-alignment.ensures ∙ c.if-is_alignment.true) c.padded.ensures
+
+pub returns-else-is_alignment : goal.returns-else-is_alignment
+returns-else-is_alignment c = no-alignment _ _ _ c.if-buf-off.false (sym c.is_alignment.ensures ∙ c.if-is_alignment.false) _ c.refuse-else-is_alignment.ensures

@@ -1,0 +1,12 @@
+-- Two bytes make 16 bits.
+use native.Mathlib.Omega.{arith}
+use Rattle.meaning.specs.declared.Order.TheVariants.{Little}
+use Rattle.util.proofs.integers.Loads.{halves, single}
+use borrow.Author.Rules.{rules}
+use Rattle.util.proofs.integers.little16.Goals as goal
+
+pub returns : goal.returns
+returns c =
+    let wide = c.wide in
+    halves Little 1 _ _ _ _ (omega arith) (single Little _ _ _ (omega arith) wide.ensures.0 wide.ensures.1)
+    (single Little _ _ _ (omega arith) c.wide-2.ensures.0 c.wide-2.ensures.1)

@@ -1,0 +1,6 @@
+-- The integer of this width.
+use borrow.Author.Rules.{rules}
+use Rattle.util.proofs.integers.parse_u64.Goals as goal
+
+pub returns : goal.returns
+returns c = c.parse.ensures
