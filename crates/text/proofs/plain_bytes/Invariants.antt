@@ -1,0 +1,15 @@
+-- The loop's invariant: the bytes passed are plain, so what is left has the rest.
+use Prim.Native.Nat.{ℕ, ◌≤◌, ◌+◌, ◌-◌}
+use mathlib.Core.List.{List}
+use mathlib.Core.Path.{◌≡◌, refl}
+use native.Mathlib.Omega.{arith}
+use lib.ListN.{length, drop, get_or}
+use Rattle.text.specs.Verdict.{plain_bytes}
+use Rattle.text.proofs.Scans.{plain-on, plain-zero, plain-high, plain_end}
+use Rattle.text.proofs.plain_bytes.Given as goal
+
+abbrev pub invariant-loop-i : goal.invariant-loop-i
+invariant-loop-i l = (l.i ≤ length l.s) × (plain_bytes l.s ≡ l.i + plain_bytes (drop l.i l.s))
+
+abbrev pub decreases-loop-i : goal.decreases-loop-i
+decreases-loop-i l = length l.s - l.i

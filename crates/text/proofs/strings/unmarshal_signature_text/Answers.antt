@@ -1,0 +1,21 @@
+-- The offset is tested; the rest is the reader on the whole buffer.
+use mathlib.Core.Path.{ap, ◌∙◌}
+use Rattle.meaning.specs.ReadValue.{read_sig}
+use Rattle.meaning.specs.declared.Checked.TheVariants.{Refused}
+use Rattle.meaning.specs.declared.Order.TheVariants.{Little}
+use Rattle.meaning.proofs.ValueLocal.{read_sig-local}
+use Rattle.util.proofs.Windows.{entry_past, entry-is, entry-outside}
+use borrow.Author.Rules.{rules}
+use Rattle.text.proofs.strings.unmarshal_signature_text.Goals as goal
+
+pub returns-then-buf-off : goal.returns-then-buf-off
+returns-then-buf-off c = λ o. ap Refused c.refuse.ensures ∙ entry-outside (read_sig o) _ _ c.if-buf-off.true
+
+pub taken_from-requires : goal.taken_from-requires
+taken_from-requires c =
+    let a = c.args in
+    entry_past (read_sig Little) (read_sig-local Little).bound a.buf.now a.offset.0 _ c.if-buf-off.false
+    (c.read_signature_text.ensures Little)
+
+pub returns : goal.returns
+returns c = λ o. c.taken_from.ensures ∙ entry-is (read_sig o) _ _ _ c.if-buf-off.false (c.read_signature_text.ensures o)

@@ -1,0 +1,19 @@
+-- The loop's invariant: the scan of what is left, from where the walk is, decides about UTF-8; and the flag or what is left, about zeros.
+use Prim.Native.Nat.{ℕ, ◌≤◌, ◌-◌}
+use mathlib.Core.List.{List}
+use mathlib.Core.Bool.{◌&&◌, not}
+use mathlib.Core.Path.{◌≡◌, refl, ap, ◌∙◌}
+use native.Mathlib.Omega.{arith}
+use lib.ListN.{length, drop, get_or}
+use borrow.Author.Rules.{rules}
+use borrow.Author.Tests.{eq-eqb, ne_eqb}
+use Rattle.meaning.specs.Text.{scan, utf8, no_zero}
+use Rattle.text.proofs.Classes.{classes, rule, said}
+use Rattle.text.proofs.Scans.{scan-on, scan-stop, zero-on, scan-end, zero-end, not-utf8, has-zero, fine}
+use Rattle.text.proofs.walk.Given as goal
+
+abbrev pub invariant-loop-i : goal.invariant-loop-i
+invariant-loop-i l = (l.i ≤ length l.s) × (utf8 (drop l.from l.s) ≡ scan (drop l.i l.s) l.at.left l.at.low l.at.high) × (no_zero (drop l.from l.s) ≡ (not l.zero && no_zero (drop l.i l.s)))
+
+abbrev pub decreases-loop-i : goal.decreases-loop-i
+decreases-loop-i l = length l.s - l.i

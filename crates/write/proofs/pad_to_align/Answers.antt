@@ -1,0 +1,41 @@
+-- The tests are those of `write_at` and `padding_bytes`, in their order.
+use mathlib.Core.Path.{refl, sym, ◌∙◌}
+use lib.ListN.{length-replicate}
+use Rattle.write.proofs.Paddings.{aligned, not_aligned}
+use Rattle.write.proofs.store.Writes.{outside, is-faulty, is-bytes, no_room, stored}
+use borrow.Author.Rules.{rules}
+use Rattle.write.proofs.pad_to_align.Goals as goal
+
+pub returns-then-buf-at : goal.returns-then-buf-at
+returns-then-buf-at c =
+    let it = outside _ _ _ c.if-buf-at.true _ c.refuse.ensures in
+    record { value = it.0; buf_after = it.1 }
+
+pub gap-count-requires : goal.gap-count-requires
+gap-count-requires c = rw (sym c.is_alignment.ensures ∙ c.if-is_alignment.true) tt
+
+pub returns-then-buf-at-2 : goal.returns-then-buf-at-2
+returns-then-buf-at-2 c =
+    let it = let g = c in
+    let within = g.if-buf-at.false in
+    let is = aligned _ _ _ (sym g.is_alignment.ensures ∙ g.if-is_alignment.true) g.gap-count.ensures in
+    is-bytes _ _ _ within _ is _ _ (no_room _ _ within _ _ (sym (length-replicate _ 0)) c.if-buf-at-2.true _ c.refuse-then-buf-at-2.ensures) in
+    record { value = it.0; buf_after = it.1 }
+
+pub returns-else-buf-at-2 : goal.returns-else-buf-at-2
+returns-else-buf-at-2 c =
+    let it = let room = c in
+    let g = room in
+    let within = g.if-buf-at.false in
+    let is = aligned _ _ _ (sym g.is_alignment.ensures ∙ g.if-is_alignment.true) g.gap-count.ensures in
+    let wrote = c.put_zeros.ensures in
+    is-bytes _ _ _ within _ is _ _ (stored _ _ within _ _ (sym (length-replicate _ 0)) room.if-buf-at-2.false _ refl _ wrote) in
+    record { value = it.0; buf_after = it.1 }
+
+pub returns-else-is_alignment : goal.returns-else-is_alignment
+returns-else-is_alignment c =
+    let it = let t = c in
+    let a = t.args in
+    let is = not_aligned a.align a.place.0 (sym t.is_alignment.ensures ∙ c.if-is_alignment.false) in
+    is-faulty _ _ _ t.if-buf-at.false _ is _ c.refuse-else-is_alignment.ensures in
+    record { value = it.0; buf_after = it.1 }

@@ -1,0 +1,13 @@
+-- Two bytes are two halves of one byte each.
+use native.Mathlib.Omega.{arith}
+use lib.ListN.{length-set}
+use Rattle.meaning.specs.declared.Order.TheVariants.{Big}
+use Rattle.write.proofs.store.Stores.{two_bytes}
+use borrow.Author.Rules.{rules}
+use Rattle.write.proofs.store.big16.Goals as goal
+
+pub returns : goal.returns
+returns c = two_bytes Big _ _ c.args.x _ _ c.low.ensures c.low-2.ensures
+
+pub bounds-buf-at-2 : goal.bounds-buf-at-2
+bounds-buf-at-2 c = simp length-set (omega arith)
