@@ -83,7 +83,7 @@ loop-at-preserved c =
       simp length-set i.2,
       simp length-set i.3,
       few counts c.loop-at.at _ _ i.3 h.small m.0 i.4,
-      subst (λ (e : Entry). Run a.order (take a.end a.buf.now) (a.end - a.first) a.first (set c.loop-at.entries fe.code e) (seen_more counts fe.code) fe.next-1.0)
+      subst (λ (e : Entry). Run a.order (take a.end a.buf.now) (a.end - a.first) a.first (set c.loop-at.entries fe.code e) (seen_more counts fe.code) fe.next.0)
           (sym c.first_of.ensures) next,
     )
 
