@@ -2,9 +2,7 @@
 use mathlib.Core.Path.{◌≡◌, refl}
 use Rattle.structs.specs.declared.MtEntry.{MtEntry}
 use Rattle.structs.specs.declared.MtFields.{MtFields}
-use borrow.Author.Rules.{rules}
-use Rattle.structs.proofs.of_fields.Statement.{statement}
-use Rattle.structs.proofs.of_fields.Tie as tie
+use Rattle.structs.proofs.of_fields.Goals as goal
 
 abbrev fields : (a1 a2 a3 a4 a5 a6 a7 a8 a9 : MtEntry) → MtFields
 fields a1 a2 a3 a4 a5 a6 a7 a8 a9 =
@@ -14,16 +12,11 @@ made : {a1 a2 a3 a4 a5 a6 a7 a8 a9 b1 b2 b3 b4 b5 b6 b7 b8 b9 : MtEntry} → a1 
     → a7 ≡ b7 → a8 ≡ b8 → a9 ≡ b9 → fields a1 a2 a3 a4 a5 a6 a7 a8 a9 ≡ fields b1 b2 b3 b4 b5 b6 b7 b8 b9
 made e1 e2 e3 e4 e5 e6 e7 e8 e9 = rw (e1, e2, e3, e4, e5, e6, e7, e8, e9) refl
 
-returns : tie.Need-returns
+pub returns : goal.returns
 returns c =
-    let c8 = c.before in
-    let c6 = c8.before.before in
-    let c4 = c6.before.before in
-    let c2 = c4.before.before in
-    made c2.before.of_entry.ensures c2.of-entry2.ensures c4.before.of-entry3.ensures c4.of-entry4.ensures
-    c6.before.of-entry5.ensures c6.of-entry6.ensures c8.before.of-entry7.ensures c8.of-entry8.ensures c.of-entry9.ensures
-
-pub of_fields_spec : {M : Type 1} → statement M
-of_fields_spec =
-    tie.close (tie.spec (λ c. search rules) (λ c. search rules) (λ c. search rules) (λ c. search rules) (λ c. search rules) (λ c. search rules)
-    (λ c. search rules) (λ c. search rules) (λ c. search rules) returns)
+    let c8 = c in
+    let c6 = c8 in
+    let c4 = c6 in
+    let c2 = c4 in
+    made c2.of_entry.ensures c2.of_entry-2.ensures c4.of_entry-3.ensures c4.of_entry-4.ensures
+    c6.of_entry-5.ensures c6.of_entry-6.ensures c8.of_entry-7.ensures c8.of_entry-8.ensures c.of_entry-9.ensures
