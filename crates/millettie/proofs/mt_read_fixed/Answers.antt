@@ -10,8 +10,7 @@ use Rattle.structs.specs.declared.MtAnswer.{MtAnswer}
 use Rattle.millettie.specs.declared.MtFixed.{MtFixed}
 use Rattle.millettie.specs.Fixed.{fixed_of}
 use borrow.Author.Rules.{rules}
-use Rattle.millettie.proofs.mt_read_fixed.Statement.{statement}
-use Rattle.millettie.proofs.mt_read_fixed.Tie as tie
+use Rattle.millettie.proofs.mt_read_fixed.Goals as goal
 
 made : {a b : MtAnswer} {k l x y : ℕ} → a ≡ b → k ≡ l → x ≡ y → ◌≡◌ {A = MtFixed} (record { answer = a; kind = k; bits = x }) (record { answer = b; kind = l; bits = y })
 made e f g = rw (e, f, g) refl
@@ -22,23 +21,14 @@ named : {o p : Order} (e : o ≡ p) (sig buf : List ℕ) (off : ℕ) {r x : Fixe
 named {o} {p} e sig buf off q k =
     ap (λ (x : FixedRead). fixed_of x (check_value p sig buf off)) (sym k ∙ q ∙ ap (λ (o : Order). read_fixed o sig buf off) e)
 
-returns : tie.Need-returns
-returns c =
-    let v = c.before.before.before.before in
-    let u = v.before.before in
-    let a = u.before.before.before.before.args in
-    made c.before.before.mt-check-value.ensures c.before.letter.ensures c.bits.ensures
-    ∙ named u.before.order.ensures a.sig.now a.buf.now a.offset u.unmarshal-fixed.ensures v.value.given.1
+pub returns-in-Read : goal.returns-in-Read
+returns-in-Read c =
+    let a = c.args in
+    made c.mt_check_value.ensures c.letter.ensures c.bits.ensures
+    ∙ named c.order.ensures a.sig.now a.buf.now a.offset c.unmarshal_fixed.ensures c.in-Read.is
 
-returns-2 : tie.Need-returns-2
-returns-2 c =
-    let v = c.before.before in
-    let u = v.before.before in
-    let a = u.before.before.before.before.args in
+pub returns-in-Refused : goal.returns-in-Refused
+returns-in-Refused c =
+    let a = c.args in
     made c.refused.ensures refl refl
-    ∙ named u.before.order.ensures a.sig.now a.buf.now a.offset u.unmarshal-fixed.ensures v.refusal.given.1
-
-pub mt_read_fixed_spec : {M : Type 1} → statement M
-mt_read_fixed_spec =
-    tie.close (tie.spec (λ c. search rules) (λ c. search rules) (λ c. search rules) (λ c. search rules) (λ c. search rules) (λ c. search rules)
-    (λ c. search rules) (λ c. search rules) returns returns-2)
+    ∙ named c.order.ensures a.sig.now a.buf.now a.offset c.unmarshal_fixed.ensures c.in-Refused.is
