@@ -1,27 +1,27 @@
 -- Demand 2 for the basic values.
-use Prim.Native.Nat.{ℕ, zero, suc, ◌+◌, ◌-◌, ◌*◌, ◌/◌, ◌%◌, ◌^◌, ◌≤◌, ◌<◌}
+use Prim.Native.Nat.{ℕ, ◌+◌, ◌^◌, ◌≤◌, ◌<◌}
 use native.Mathlib.Omega.{arith}
-use mathlib.Core.Bool.{Bool, true, false, ◌&&◌}
-use mathlib.Core.List.{List, [], ◌∷◌, ◌++◌, append_assoc, append-nil}
+use mathlib.Core.Bool.{Bool}
+use mathlib.Core.List.{List, [], ◌∷◌, ◌++◌}
 use mathlib.Core.Logic.{◌↔◌}
 use mathlib.Core.Path.{◌≡◌, refl, ap, sym, subst, ◌∙◌}
-use lib.ListN.{length, take, drop, length-append, length-take, length-drop, length-replicate, take-append-drop, replicate}
+use lib.ListN.{length, take, drop, length-append, length-drop, take-append-drop, replicate}
 use lib.Seq.{length-take-le, take-append_seam, drop-append_seam}
-use lib.Dec.{leb, ltb, eqb, T, ltb→lt, lt→ltb, lit≤}
-use Rattle.meaning.specs.Reader.{Res, got, fault, R, ret, here, fail, ◌>>=◌, ◌>>◌, check, bytes}
-use Rattle.meaning.proofs.Local.{Bounded, bind_inv, bind-got, ret_inv}
-use Rattle.meaning.specs.Types.{Fix, byte, bool, i16, u16, i32, u32, i64, u64, dbl, fd, Base, fix, str, path, sig, Ty, Raw, size, top, align_base}
-use Rattle.meaning.specs.Number.{store, load, gap, zeros}
-use Rattle.meaning.proofs.NumberLaws.{Bytes, bytes_take, bytes_drop, length-store, load_store, store-load, load_lt}
+use lib.Dec.{T, ltb→lt, lt→ltb, lit≤}
+use Rattle.meaning.specs.Reader.{got, R, ret, here, fail, ◌>>=◌, ◌>>◌, check, bytes}
+use Rattle.meaning.proofs.Local.{bind_inv, bind-got, ret_inv}
+use Rattle.meaning.specs.Types.{Fix, byte, bool, i16, u16, i32, u32, i64, u64, dbl, fd, Base, fix, str, path, sig, Ty, size, top, align_base}
+use Rattle.meaning.specs.Number.{store, load, zeros}
+use Rattle.meaning.proofs.NumberLaws.{Bytes, length-store, load_store}
 use Rattle.meaning.specs.Text.{IsUtf8, IsPath, utf8, no_zero, is_path}
 use Rattle.meaning.proofs.Utf8.{utf8-sound, utf8-complete}
 use Rattle.meaning.proofs.Paths.{path-sound, path-complete}
-use Rattle.meaning.specs.Value.{Layout, ◌▹◌, pad, raw, Cond, sized, bare, enc_base, OkBase}
-use Rattle.meaning.specs.ReadValue.{valid, any, padding, read_fix, sized_r, read_text, read_path, read_sig, accept, read_g, bare_r, base_r}
+use Rattle.meaning.specs.Value.{Layout, raw, Cond, sized, bare, enc_base, OkBase}
+use Rattle.meaning.specs.ReadValue.{valid, any, read_fix, sized_r, read_text, read_path, read_sig, accept, read_g, bare_r, base_r}
 use Rattle.meaning.proofs.ValueLocal.{padding-local}
 use Rattle.meaning.specs.Signature.{parse, Parsed, types, refused, all_legal, spell_all}
 use Rattle.meaning.proofs.SignatureLaws.{parse-sound, parse-complete, spelled-utf8}
-use Rattle.meaning.proofs.Meets.{stored, padded, At, at_split, at_join, Meets, here-bind, check_bind, check-bind-inv, check_inv, check-yes, bytes-bind, bytes-bind-inv, zeros-are}
+use Rattle.meaning.proofs.Meets.{stored, padded, At, at_split, at_join, Meets, here-bind, check_bind, check-bind-inv, bytes-bind, bytes-bind-inv, zeros-are}
 use Rattle.meaning.specs.declared.Fault.TheVariants.{InvalidBoolean, InvalidUtf8, StringContainsNullByte, MissingTerminator, InvalidObjectPath}
 use Rattle.meaning.specs.declared.Order.{Order}
 use Rattle.meaning.specs.declared.Fault.{Fault}

@@ -1,23 +1,22 @@
 -- Framing: where the bytes that a message's first 16 state are all there, its answer rests on them alone, a refusal as too short too.
-use Prim.Native.Nat.{ℕ, ◌+◌, ◌≤◌, ◌<◌}
+use Prim.Native.Nat.{ℕ, ◌+◌, ◌≤◌}
 use native.Mathlib.Omega.{arith}
 use mathlib.Core.Bool.{Bool, true, false}
-use mathlib.Core.List.{List, [], ◌∷◌, ◌++◌}
+use mathlib.Core.List.{List, ◌++◌}
 use mathlib.Core.Path.{◌≡◌, refl, ap, sym, subst, ◌∙◌}
-use lib.ListN.{length, take, drop, get_or, length-append}
-use lib.Seq.{take-append-le, drop-append-le}
+use lib.ListN.{length, take, drop, get_or}
+use lib.Seq.{take-append-le}
 use Rattle.meaning.specs.declared.Order.{Order}
 use Rattle.meaning.specs.declared.Fault.{Fault}
-use Rattle.meaning.specs.declared.Refusal.{Refusal}
 use Rattle.meaning.specs.Types.{Ty}
 use Rattle.meaning.specs.Number.{load, gap, zeros}
 use Rattle.meaning.specs.Signature.{Parsed, parse, types, refused}
-use Rattle.meaning.specs.Reader.{Res, got, fault, R, ret, here, fail, ◌>>=◌, ◌>>◌, check, bytes, window, inside, many}
+use Rattle.meaning.specs.Reader.{got, R, ret, here, fail, ◌>>=◌, ◌>>◌, check, bytes, window, inside, many}
 use Rattle.meaning.specs.ReadValue.{at4, padding, accept, length_r}
 use Rattle.meaning.specs.declared.Fault.TheVariants.{NotEnoughBytes, PaddingContainedData, InvalidByteOrder, InvalidMessageType, InvalidHeaderFields}
 use Rattle.meaning.specs.Message.{Field, Fixed, Message, complete, body_signature}
 use Rattle.meaning.specs.ReadMessage.{to_zero, at_zero, is_mark, is_kind, fixed_in, size_in, table_in, message_size, fixed_r, field_r, table_r, Opened, open_r, body_r, message_of, read_message}
-use Rattle.meaning.proofs.Local.{Ran, ran, stopped, bind_is, bind-got, bind-fault, bind_inv, ret_inv, bytes-yes, bytes-inv, le-append, take_part, window-yes, window-end}
+use Rattle.meaning.proofs.Local.{Ran, ran, stopped, bind_is, bind-got, bind-fault, bind_inv, ret_inv, bytes-yes, le-append, take_part, window-yes, window-end}
 use Rattle.meaning.proofs.Meets.{here-bind, check-bind-inv, bytes-bind-inv, padding-sound, length-pad}
 use Rattle.meaning.proofs.MessageLocal.{at_zero-inv, fields_r-bounded, fields_r-full}
 

@@ -1,20 +1,20 @@
 -- "Every complete type takes at least one byte, so each round of an array gets further": no reader of a value accepts nothing.
 use Prim.Native.Nat.{ℕ, zero, suc, ◌+◌, ◌≤◌, ◌<◌}
 use native.Mathlib.Omega.{arith}
-use mathlib.Core.Bool.{Bool, true, false}
-use mathlib.Core.List.{List, [], ◌∷◌}
-use mathlib.Core.Path.{◌≡◌, refl}
+use mathlib.Core.Bool.{Bool}
+use mathlib.Core.List.{List}
+use mathlib.Core.Path.{◌≡◌}
 use lib.ListN.{length, take, drop}
 use Rattle.meaning.specs.declared.Order.{Order}
 use Rattle.meaning.specs.declared.Fault.TheVariants.{InvalidBoolean, InvalidUtf8, StringContainsNullByte, MissingTerminator, InvalidObjectPath, VariantTooDeep}
-use Rattle.meaning.specs.Reader.{Res, got, fault, R, ret, here, fail, ◌>>=◌, ◌>>◌, check, bytes, ahead, within}
-use Rattle.meaning.specs.Types.{Fix, Base, fix, str, path, sig, Ty, base, arr, dict, struct, variant, Tys, one, more, Of, Var, size, align_base, align, whole}
+use Rattle.meaning.specs.Reader.{got, R, ret, here, fail, ◌>>=◌, ◌>>◌, check, bytes}
+use Rattle.meaning.specs.Types.{Fix, Base, fix, str, path, sig, Ty, base, arr, dict, struct, variant, Tys, one, more, size, align_base, align, whole}
 use Rattle.meaning.specs.Signature.{parse}
 use Rattle.meaning.specs.Number.{load, zeros}
 use Rattle.meaning.specs.Text.{utf8, no_zero, is_path}
 use Rattle.meaning.specs.ReadValue.{any, valid, padding, read_fix, sized_r, read_text, read_path, read_sig, accept, read_g, bare_r, base_r, elements, length_r, contents_of, array_of, array_r, pair_r, read, reads, single, variant_of, read_var}
 use Rattle.meaning.proofs.Local.{Local, Bounded, Full, bind-local, bind_inv, bytes-inv, ret-local, here-local, fail-local, check-local, bytes-local}
-use Rattle.meaning.proofs.ValueLocal.{padding-local, sized_r-local, read_text-local, read_sig-local, accept-local, single-local, bare_r-local, base_r-local, elements-bounded, elements-full, length_r-local, contents-local, pair_r-local, read-local, reads_local, read_var-local}
+use Rattle.meaning.proofs.ValueLocal.{padding-local, read_text-local, read_sig-local, accept-local, single-local, base_r-local, elements-bounded, elements-full, length_r-local, contents-local, pair_r-local, read-local, reads_local, read_var-local}
 use Rattle.meaning.proofs.ValueMeets.{ne-size}
 
 abbrev pub Grows : {A : Type 0} → R A → Type 0

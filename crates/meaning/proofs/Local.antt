@@ -1,12 +1,12 @@
 -- Demand 3 for every reader that is made of the combinators: an answer rests on the bytes before its end alone.
-use Prim.Native.Nat.{ℕ, zero, suc, ◌+◌, ◌-◌, ◌≤◌, ◌<◌, min}
+use Prim.Native.Nat.{ℕ, zero, suc, ◌+◌, ◌≤◌, ◌<◌}
 use native.Mathlib.Omega.{arith}
-use mathlib.Core.Bool.{Bool, true, false, ◌||◌, not}
+use mathlib.Core.Bool.{Bool, true, false, not}
 use mathlib.Core.List.{List, [], ◌∷◌, ◌++◌}
 use mathlib.Core.Path.{◌≡◌, refl, ap, sym, subst, ◌∙◌}
 use lib.ListN.{length, take, drop, length-append, length-take, take-append-drop}
 use lib.Seq.{take-append-le, drop-append-le, length-take-le}
-use lib.Dec.{leb, eqb, T, leb→le, nleb→lt}
+use lib.Dec.{leb, T, leb→le, nleb→lt}
 use Rattle.meaning.specs.Reader.{Res, got, fault, stop, R, after, ret, here, fail, ◌>>=◌, check, bytes, ahead, window, within, many}
 use Rattle.meaning.specs.declared.Refusal.{Refusal}
 use Rattle.meaning.specs.declared.Fault.TheVariants.{NotEnoughBytes, NotEnoughBytesForCollection}

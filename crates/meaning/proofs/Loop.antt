@@ -1,7 +1,7 @@
 -- A loop that checks one thing after another, up to the end of what is seen: what code says at each turn of `many`.
 use Prim.Native.Nat.{ℕ, zero, suc, ◌+◌, ◌≤◌, ◌<◌}
 use native.Mathlib.Omega.{arith}
-use mathlib.Core.List.{List, [], ◌∷◌}
+use mathlib.Core.List.{List, ◌∷◌}
 use mathlib.Core.Path.{◌≡◌, refl, ap, sym, ◌∙◌}
 use lib.ListN.{length}
 use Rattle.meaning.specs.declared.Place.{Place}

@@ -1,16 +1,15 @@
 -- Demand 2 by combinators: a reader accepts exactly the layouts of its good values.
-use Prim.Native.Nat.{ℕ, zero, suc, ◌+◌, ◌-◌, ◌*◌, ◌/◌, ◌%◌, ◌^◌, ◌≤◌, ◌<◌}
+use Prim.Native.Nat.{ℕ, zero, suc, ◌+◌, ◌%◌, ◌^◌, ◌≤◌, ◌<◌}
 use native.Mathlib.Omega.{arith}
-use native.Mathlib.Nat.{add_assoc, add-zero}
-use mathlib.Core.Bool.{Bool, true, false, ◌&&◌}
+use mathlib.Core.Bool.{Bool, true, false}
 use mathlib.Core.List.{List, [], ◌∷◌, ◌++◌, append_assoc, append-nil, append_cancel_right}
 use Rattle.meaning.proofs.ValueLocal.{padding-local, elements-bounded, elements-full}
 use mathlib.Core.Path.{◌≡◌, refl, ap, sym, subst, ◌∙◌}
-use lib.ListN.{length, take, drop, length-append, length-take, length-drop, length-replicate, take-append-drop, replicate}
-use lib.Seq.{take-append-le, drop-append-le, length-take-le, take-append_seam, drop-append_seam, drop-drop, drop-length, take_all}
-use lib.Dec.{leb, ltb, eqb, T, leb→le, ltb→lt, lt→ltb, le→leb, eqb→eq, eqb_refl, lit≤}
-use Rattle.meaning.specs.Reader.{Res, got, fault, R, after, ret, here, fail, ◌>>=◌, ◌>>◌, check, bytes, ahead, within, many}
-use Rattle.meaning.proofs.Local.{Local, Bounded, Full, bind_inv, bind-got, bind-fault, bytes-inv, bytes-yes, window-inv, window-got, window-end, ahead-yes, ahead-inv, round, many-inv, Looped, ended, again, many-end, many-round, ret_inv, cmp, Cmp, is_le, is_gt}
+use lib.ListN.{length, take, drop, length-append, length-drop, length-replicate, take-append-drop, replicate}
+use lib.Seq.{drop-append-le, length-take-le, take-append_seam, drop-append_seam, drop-drop, drop-length}
+use lib.Dec.{eqb, T, eqb→eq, eqb_refl}
+use Rattle.meaning.specs.Reader.{got, fault, R, ret, here, ◌>>=◌, ◌>>◌, check, bytes, within, many}
+use Rattle.meaning.proofs.Local.{Local, Bounded, Full, bind_inv, bind-got, bind-fault, bytes-inv, bytes-yes, window-inv, window-got, window-end, ahead-yes, ahead-inv, round, many-inv, Looped, ended, again, many-end, many-round, ret_inv}
 use Rattle.meaning.specs.Number.{store, load, gap, zeros}
 use Rattle.meaning.proofs.NumberLaws.{Bytes, bytes_take, bytes_drop, length-store, load_store, store-load, load_lt}
 use Rattle.meaning.specs.Value.{Layout, ◌▹◌, pad, raw, each, counted, Cond, ok_pad, ok_then, Each, first, OkLength, ok_contents}

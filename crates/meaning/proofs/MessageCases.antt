@@ -2,21 +2,20 @@
 use Prim.Native.Nat.{ℕ, zero, suc}
 use mathlib.Core.List.{List, [], ◌∷◌, ◌++◌, map}
 use mathlib.Core.Path.{◌≡◌, refl}
-use lib.ListN.{replicate, take}
-use Rattle.meaning.specs.Types.{fix, u32, base, str, path, sig}
-use Rattle.meaning.specs.Value.{◌▹◌, pad, each, counted, sized, bare, enc_base, enc, enc_var, encode}
+use lib.ListN.{replicate}
+use Rattle.meaning.specs.Types.{base, str, path}
+use Rattle.meaning.specs.Value.{◌▹◌, pad, each, sized, bare, enc_base, enc, enc_var, encode}
 use Rattle.meaning.specs.Reader.{got, ret, here, fail, ◌>>=◌, check, bytes, ahead, window, many}
 use Rattle.meaning.specs.Signature.{spell, nest, shape, legal, find, snoc, put, put_base, step, run, all_nest, parse}
 use Rattle.meaning.specs.Number.{digits, value, store, load, gap, zeros}
 use Rattle.meaning.specs.Text.{lead, scan, utf8, no_zero, names, is_path}
 use Rattle.meaning.specs.ReadValue.{taken, no, padding, read_fix, sized_r, read_text, read_path, read_sig, accept, read_g, bare_r, base_r, elements, length_r, array_of, array_r, pair_r, and_r, read, single, variant_of, read_var, read_top}
-use Rattle.meaning.specs.Message.{wants, enc_field, count, complete, text, encode_all, Fixed, Message, enc_fixed, table, body_at, frame, body_of, encode_message}
+use Rattle.meaning.specs.Message.{wants, enc_field, count, complete, text, encode_all, Message, enc_fixed, table, body_at, frame, encode_message}
 use Rattle.meaning.specs.declared.MessageType.TheVariants.{Call}
 use Rattle.meaning.specs.ReadMessage.{at_zero, ended, fixed_r, byte_r, one_type, ask, type_r, field_r, table_r, open_r, values_r, body_r, read_message, check_message}
 use Rattle.meaning.specs.declared.Fault.TheVariants.{NotEnoughBytes, NotEnoughBytesForCollection, PaddingContainedData, InvalidBoolean, MissingTerminator, InvalidObjectPath, WrongSignature, VariantTooDeep, InvalidByteOrder, InvalidMessageType, NoSignature, InvalidHeaderField, InvalidHeaderFields, BodyLeft}
-use Rattle.meaning.specs.declared.Order.TheVariants.{Little, Big}
+use Rattle.meaning.specs.declared.Order.TheVariants.{Little}
 use Rattle.meaning.specs.declared.Checked.{Checked}
-use Rattle.meaning.specs.declared.Fault.{Fault}
 
 pub record MessageCase : Type 0 where
   pub buf : List ℕ

@@ -1,25 +1,25 @@
 -- Demands 2 and 3 of the answer that a message gets.
-use Prim.Native.Nat.{ℕ, zero, suc, ◌+◌, ◌-◌, ◌≤◌, ◌<◌}
+use Prim.Native.Nat.{ℕ, ◌+◌, ◌-◌, ◌≤◌, ◌<◌}
 use native.Mathlib.Omega.{arith}
 use mathlib.Core.Bool.{Bool, true, false}
 use mathlib.Core.List.{List, [], ◌∷◌, ◌++◌}
 use mathlib.Core.Path.{◌≡◌, refl, ap, sym, subst, ◌∙◌}
-use mathlib.Core.Logic.{◌↔◌, ◌≢◌, ◌⊎◌, inl, inr}
-use lib.ListN.{length, take, drop, length-append, take-append-drop}
+use mathlib.Core.Logic.{◌↔◌, ◌≢◌, ◌⊎◌}
+use lib.ListN.{length, take, length-append, take-append-drop}
 use lib.Seq.{length-take-le, take-append_seam, take-append-le}
 use lib.Dec.{T, eqb, eqb→eq, lit≤}
-use Rattle.meaning.specs.Reader.{Res, got, fault, stop, R}
-use Rattle.meaning.proofs.Local.{Local, short, leb-true, same_first, cut_short}
-use Rattle.meaning.specs.Types.{Fix, Base, fix, str, path, sig, Ty, base, arr, dict, struct, variant, Of, Var}
-use Rattle.meaning.specs.Signature.{parse, Parsed, types, all_legal, spell_all}
+use Rattle.meaning.specs.Reader.{Res, got, fault}
+use Rattle.meaning.proofs.Local.{short, same_first, cut_short}
+use Rattle.meaning.specs.Types.{Fix, fix, str, path, sig, Ty, base, arr, dict, struct, variant, Of, Var}
+use Rattle.meaning.specs.Signature.{parse, types, all_legal, spell_all}
 use Rattle.meaning.proofs.SignatureLaws.{parse-complete}
 use Rattle.meaning.specs.declared.Checked.TheVariants.{Refused}
 use Rattle.meaning.proofs.NumberLaws.{Bytes}
-use Rattle.meaning.specs.Value.{◌▹◌, raw, bare, Each, OkBase, enc, Ok, enc_var, OkVar, ok_then}
-use Rattle.meaning.specs.ReadValue.{taken, no, checked_of}
+use Rattle.meaning.specs.Value.{Each, OkBase, Ok, OkVar}
+use Rattle.meaning.specs.ReadValue.{taken, checked_of}
 use Rattle.meaning.proofs.ValueDemands.{same_taken, taken-inv, refused-inv, is-final, short-inv}
 use Rattle.meaning.proofs.Meets.{At, at_read}
-use Rattle.meaning.specs.Message.{Wants, wants, Holds, Field, enc_field, OkField, text_of, text, body_signature, Message, encode_message, Proper, EncodesMessage}
+use Rattle.meaning.specs.Message.{wants, Holds, Field, enc_field, OkField, text_of, text, body_signature, Message, encode_message, Proper, EncodesMessage}
 use Rattle.meaning.specs.ReadMessage.{to_zero, at_zero, message_size, open_r, read_message, check_message}
 use Rattle.meaning.specs.Header.{holds_text, text_from, lookup}
 use Rattle.meaning.proofs.MessageLocal.{read_message-local}

@@ -1,21 +1,18 @@
 -- Demand 3 for messages: the reader of messages is local, by its combinators.
-use Prim.Native.Nat.{ℕ, zero, suc, ◌+◌, ◌%◌, ◌≤◌, ◌<◌}
+use Prim.Native.Nat.{ℕ, ◌≤◌, ◌<◌}
 use native.Mathlib.Omega.{arith}
-use mathlib.Core.Bool.{Bool, true, false}
 use mathlib.Core.List.{List, [], ◌∷◌, ◌++◌}
-use mathlib.Core.Path.{◌≡◌, refl, ap, sym, subst, ◌∙◌}
-use lib.ListN.{length, take, drop, get_or}
-use lib.Dec.{leb, eqb}
-use Rattle.meaning.specs.Reader.{Res, got, fault, stop, R, ret, here, fail, ◌>>=◌, ◌>>◌, check, bytes, inside, many}
-use Rattle.meaning.proofs.Local.{Local, Bounded, Full, short, Cmp, is_le, is_gt, cmp, leb-true, leb-false, bind-local, bind-bounded, bind-full, map-full, bind_inv, ret-local, ret_inv, here-local, fail-local, check-local, bytes-local, window-local, many-bounded, many-full}
-use Rattle.meaning.specs.Types.{Ty, Of, Var, Value}
-use Rattle.meaning.specs.Signature.{code, parse, Parsed, types, refused}
-use Rattle.meaning.specs.declared.Fault.{Fault}
-use Rattle.meaning.specs.ReadValue.{padding, read_sig, accept, length_r, pair_r, and_r, read, read_var, read_top}
+use mathlib.Core.Path.{◌≡◌, refl, ap, sym, ◌∙◌}
+use lib.ListN.{length}
+use lib.Dec.{eqb}
+use Rattle.meaning.specs.Reader.{Res, got, fault, stop, R, ret, ◌>>=◌, ◌>>◌, inside, many}
+use Rattle.meaning.proofs.Local.{Local, Bounded, Full, short, Cmp, is_le, is_gt, cmp, leb-true, leb-false, bind-local, bind-bounded, bind-full, map-full, ret-local, here-local, fail-local, check-local, bytes-local, window-local, many-bounded, many-full}
+use Rattle.meaning.specs.Types.{Ty}
+use Rattle.meaning.specs.Signature.{code, Parsed, types, refused}
+use Rattle.meaning.specs.ReadValue.{padding, length_r, and_r, read, read_var, read_top}
 use Rattle.meaning.proofs.ValueLocal.{padding-local, read_sig-local, accept-local, length_r-local, pair_r-local, and_r-local, read-local, read_var-local, read_top-local}
-use Rattle.meaning.specs.Message.{Wants, nothing, exactly, anything, wants, Field, complete, text, body_signature, Values, Fixed, Message}
-use Rattle.meaning.specs.ReadMessage.{to_zero, at_zero, ended, is_mark, is_kind, fixed_in, size_in, fixed_r, byte_r, one_type, code_of, ask, type_r, field_r, table_r, Opened, open_r, values_r, body_r, message_of, read_message}
-use Rattle.meaning.specs.declared.Refusal.{Refusal}
+use Rattle.meaning.specs.Message.{Wants, nothing, exactly, anything}
+use Rattle.meaning.specs.ReadMessage.{to_zero, at_zero, ended, fixed_r, byte_r, one_type, code_of, ask, type_r, field_r, table_r, open_r, values_r, body_r, message_of, read_message}
 use Rattle.meaning.specs.declared.Fault.TheVariants.{NotEnoughBytes, WrongSignature, NoSignature, InvalidHeaderField, BodyLeft}
 use Rattle.meaning.specs.declared.Order.{Order}
 

@@ -1,36 +1,34 @@
 -- Demand 2 for messages.
-use Prim.Native.Nat.{ℕ, zero, suc, ◌+◌, ◌-◌, ◌*◌, ◌/◌, ◌%◌, ◌^◌, ◌≤◌, ◌<◌}
+use Prim.Native.Nat.{ℕ, ◌+◌, ◌^◌, ◌≤◌, ◌<◌}
 use native.Mathlib.Omega.{arith}
-use mathlib.Core.Bool.{Bool, true, false, ◌&&◌, ◌||◌}
-use mathlib.Core.List.{List, [], ◌∷◌, ◌++◌, append_assoc, append-nil}
+use mathlib.Core.Bool.{Bool, true, false, ◌||◌}
+use mathlib.Core.List.{List, [], ◌∷◌, ◌++◌}
 use mathlib.Core.Path.{◌≡◌, refl, ap, ap₂, sym, subst, ◌∙◌}
-use mathlib.Core.Logic.{◌↔◌}
 use lib.ListN.{length, take, drop, get_or, length-append, length-drop, take-append-drop}
 use lib.Seq.{length-take-le, take_all, take_at, drop_at}
 use lib.Dec.{leb, eqb, T, eqb→eq, eqb_refl, leb→le, lit≤}
-use Rattle.meaning.specs.Reader.{Res, got, fault, R, ret, here, fail, ◌>>=◌, ◌>>◌, check, bytes, inside, many}
-use Rattle.meaning.proofs.Local.{Local, Bounded, bind_inv, bind-got, ret_inv, window-got, window-inv, window-end}
-use Rattle.meaning.specs.Types.{Fix, byte, bool, i16, u16, i32, u32, i64, u64, dbl, fd, Base, fix, str, path, sig, Ty, base, arr, dict, struct, variant, Of, Var, Value}
-use Rattle.meaning.specs.Signature.{code, spell, spell_all, legal, all_legal, parse, Parsed, types, refused, Tok, is_base, toks, find}
+use Rattle.meaning.specs.Reader.{got, R, ret, fail, ◌>>=◌, ◌>>◌, check, inside, many}
+use Rattle.meaning.proofs.Local.{Bounded, bind_inv, bind-got, ret_inv, window-got, window-inv, window-end}
+use Rattle.meaning.specs.Types.{byte, bool, i16, u16, i32, u32, i64, u64, dbl, fd, Base, fix, str, path, sig, Ty, base, arr, dict, struct, variant}
+use Rattle.meaning.specs.Signature.{code, spell, spell_all, legal, parse, Parsed, types, refused, is_base, toks, find}
 use Rattle.meaning.proofs.SignatureLaws.{find-base, parse-sound, parse-complete, spelled-utf8}
 use Rattle.meaning.specs.Number.{store, load, gap}
 use Rattle.meaning.proofs.NumberLaws.{Bytes, bytes_take, bytes_drop, length-store, load_store, store-load, load_lt}
-use Rattle.meaning.specs.Text.{pick, between, utf8}
-use Rattle.meaning.specs.Value.{Layout, ◌▹◌, pad, raw, each, Cond, ok_pad, ok_then, Each, OkLength, sized, bare, enc, Ok, enc_var, OkVar, encode, Fits}
-use Rattle.meaning.specs.ReadValue.{any, padding, read_sig, sized_r, accept, length_r, pair_r, and_r, read, read_var, read_top}
-use Rattle.meaning.proofs.ValueLocal.{padding-local, read_sig-local, length_r-local, read-local, read_var-local, read_top-local}
-use Rattle.meaning.proofs.Meets.{At, at_split, at_join, at-bytes, at_none, at_read, at-then, then_at, mid_le, Meets, here-bind, check_bind, check-bind-inv, check_inv, check-yes, bytes-bind, bytes-bind-inv, stored, padding-sound, padding-complete, length-pad, padded, paired, many-sound, many-complete, at-widen, at-narrow, lengths, length-lt}
+use Rattle.meaning.specs.Text.{pick, utf8}
+use Rattle.meaning.specs.Value.{Layout, ◌▹◌, pad, raw, each, Cond, ok_then, Each, OkLength, sized, bare, enc, Ok, enc_var, OkVar, encode, Fits}
+use Rattle.meaning.specs.ReadValue.{any, padding, read_sig, accept, length_r, and_r, read, read_var, read_top}
+use Rattle.meaning.proofs.ValueLocal.{padding-local, read_var-local, read_top-local}
+use Rattle.meaning.proofs.Meets.{At, at_split, at_join, at_none, at_read, at-then, then_at, mid_le, Meets, check_bind, check-bind-inv, check_inv, check-yes, bytes-bind, bytes-bind-inv, padding-sound, padding-complete, length-pad, padded, paired, many-sound, many-complete, at-widen, at-narrow, lengths, length-lt}
 use Rattle.meaning.proofs.BaseMeets.{sizeds, under, accept-inv, accept-got}
 use Rattle.meaning.proofs.ValueMeets.{values, variants, ne_var, top-meets, one-legal, legal-one, spell_one, ne-then}
-use Rattle.meaning.specs.Message.{mark, kind_code, Wants, nothing, exactly, anything, wants, Holds, Field, enc_field, OkField, complete, text, body_signature, Values, encode_all, FitsAll, Fixed, Message, enc_fixed, table, body_at, frame, body_of, encode_message, OkFixed, Proper, EncodesMessage}
+use Rattle.meaning.specs.Message.{mark, kind_code, Wants, nothing, exactly, anything, wants, Holds, Field, enc_field, OkField, complete, body_signature, Values, encode_all, FitsAll, Fixed, Message, enc_fixed, table, body_at, frame, body_of, encode_message, OkFixed, Proper}
 use Rattle.meaning.specs.declared.MessageType.{MessageType}
 use Rattle.meaning.specs.declared.MessageType.TheVariants.{Call, Reply, Error, Signal}
 use Rattle.meaning.specs.ReadMessage.{at_zero, ended, is_mark, order_of, is_kind, kind_of, fixed_in, size_in, table_in, message_size, fixed_r, byte_r, one_type, code_of, ask, type_r, field_r, table_r, Opened, open_r, values_r, body_r, message_of, read_message}
-use Rattle.meaning.proofs.MessageLocal.{at_zero-inv, at_zero-got, ended-yes, ended-inv, byte_r-local, type_r-local, content_r-local, parts_r-local, field_r-local, fields_r-bounded, fields_r-full, table_r-local, fixed_r-local, open_r-local, values_r-local, body_r-bounded, body_r-full}
+use Rattle.meaning.proofs.MessageLocal.{at_zero-inv, at_zero-got, ended-yes, ended-inv, byte_r-local, type_r-local, field_r-local, fields_r-bounded, fields_r-full, fixed_r-local, body_r-bounded, body_r-full}
 use Rattle.meaning.specs.declared.Fault.TheVariants.{WrongSignature, InvalidByteOrder, InvalidMessageType, InvalidHeaderFields}
 use Rattle.meaning.specs.declared.Order.{Order}
 use Rattle.meaning.specs.declared.Order.TheVariants.{Little, Big}
-use Rattle.meaning.specs.declared.Fault.{Fault}
 use Rattle.meaning.proofs.Booleans.{and_left, and_right}
 
 -- one thing and then another, which rests on it

@@ -1,13 +1,12 @@
 -- One law over the width and both orders: storing and loading undo one another.
-use Prim.Native.Nat.{ℕ, zero, suc, ◌+◌, ◌-◌, ◌*◌, ◌/◌, ◌%◌, ◌^◌, ◌≤◌, ◌<◌}
+use Prim.Native.Nat.{ℕ, zero, suc, ◌+◌, ◌*◌, ◌/◌, ◌%◌, ◌^◌, ◌<◌}
 use native.Mathlib.Omega.{arith}
 use native.Mathlib.Nat.{pow-suc, pow-zero, div-lt_iff_lt-mul, mod-add-div, add-mul-mod_self_left, mod-eq_of_lt, add-mul-div_left, div-eq_of_lt, zero-add}
-use mathlib.Core.List.{List, [], ◌∷◌, ◌++◌, reverse, reverse_aux, reverse-reverse}
-use mathlib.Core.Path.{◌≡◌, refl, ap, ap₂, sym, subst, ◌∙◌}
-use mathlib.Core.Bool.{Bool, true, false}
-use lib.ListN.{length, take, drop, get_or, length-reverse, replicate}
-use lib.Dec.{lit<, T, eqb, eqb→eq}
-use Rattle.meaning.specs.Number.{digits, value, turn, store, load, zeros}
+use mathlib.Core.List.{List, [], ◌∷◌, reverse_aux, reverse-reverse}
+use mathlib.Core.Path.{◌≡◌, refl, ap, subst, ◌∙◌}
+use lib.ListN.{length, take, drop, get_or, length-reverse}
+use lib.Dec.{lit<}
+use Rattle.meaning.specs.Number.{digits, value, turn, store, load}
 use Rattle.meaning.specs.declared.Order.{Order}
 use Rattle.meaning.specs.declared.Order.TheVariants.{Little, Big}
 

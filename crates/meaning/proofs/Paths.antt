@@ -1,11 +1,10 @@
 -- The test of an object path accepts exactly the paths.
-use Prim.Native.Nat.{ℕ, zero, suc}
-use native.Mathlib.Omega.{arith}
-use mathlib.Core.Bool.{Bool, true, false, ◌&&◌, ◌||◌, not}
+use Prim.Native.Nat.{ℕ}
+use mathlib.Core.Bool.{Bool, true, false, ◌&&◌}
 use mathlib.Core.List.{List, [], ◌∷◌, ◌++◌}
-use mathlib.Core.Path.{◌≡◌, refl, ap, sym, subst, ◌∙◌}
-use lib.Dec.{eqb, T, eqb→eq, eqb_refl}
-use Rattle.meaning.specs.Text.{between, name_byte, name_bytes, is_name, slashed, path_of, are_names, IsPath, names, is_path}
+use mathlib.Core.Path.{◌≡◌, refl, ap, sym, subst}
+use lib.Dec.{eqb, T, eqb→eq}
+use Rattle.meaning.specs.Text.{name_byte, name_bytes, is_name, slashed, path_of, are_names, IsPath, names, is_path}
 use Rattle.meaning.proofs.Booleans.{and_left, and_right, and_both}
 
 -- a slash is no byte of a name

@@ -1,22 +1,21 @@
 -- Arrays of y n q u x t h d need no look at their elements: whatever whole number of bytes they hold is accepted.
 -- This is what code relies on that tests the length alone.
-use Prim.Native.Nat.{ℕ, zero, suc, ◌+◌, ◌*◌, ◌%◌, ◌≤◌, ◌<◌}
+use Prim.Native.Nat.{ℕ, zero, suc, ◌+◌, ◌*◌, ◌%◌, ◌≤◌}
 use native.Mathlib.Omega.{arith}
 use native.Mathlib.Nat.{add-mod_right}
-use mathlib.Core.Bool.{true}
 use mathlib.Core.List.{List, [], ◌∷◌}
-use mathlib.Core.Path.{◌≡◌, refl, ap, sym, subst, ◌∙◌}
+use mathlib.Core.Path.{◌≡◌, ap, ◌∙◌}
 use lib.ListN.{length, take, drop}
 use lib.Dec.{T}
 use Rattle.meaning.specs.declared.Order.{Order}
 use Rattle.meaning.specs.declared.Fault.TheVariants.{InvalidBoolean}
-use Rattle.meaning.specs.Reader.{Res, got, R, ret, here, ◌>>=◌, ◌>>◌, check, bytes, many}
+use Rattle.meaning.specs.Reader.{got, R, ret, ◌>>=◌, ◌>>◌, check, bytes, many}
 use Rattle.meaning.specs.Types.{Fix, fix, size}
 use Rattle.meaning.specs.Number.{load, gap}
 use Rattle.meaning.specs.Value.{pad}
 use Rattle.meaning.specs.ReadValue.{valid, padding, read_fix, bare_r, base_r}
 use Rattle.meaning.proofs.Local.{many-end, many-round, bind-got, bytes-yes}
-use Rattle.meaning.proofs.Meets.{At, at_none, here-bind, check_bind, padding-complete}
+use Rattle.meaning.proofs.Meets.{at_none, here-bind, check_bind, padding-complete}
 use Rattle.meaning.proofs.ValueMeets.{gap-none, ne-size}
 
 -- no padding where there is no gap

@@ -1,9 +1,9 @@
 -- Demands 2 and 3 as sentences about a contract, as the generated `Learnt` of a function states it: of a check of values, and of one of messages.
 -- `told` reads an answer as what a caller is told, so the same sentences serve an enum of the library and a struct that C gets.
-use Prim.Native.Nat.{ℕ, zero, suc, ◌+◌, ◌≤◌, ◌<◌}
+use Prim.Native.Nat.{ℕ, ◌+◌, ◌≤◌, ◌<◌}
 use native.Mathlib.Omega.{arith}
 use mathlib.Core.List.{List, ◌++◌}
-use mathlib.Core.Path.{◌≡◌, refl, ap, sym, subst, ◌∙◌}
+use mathlib.Core.Path.{◌≡◌, refl, ap, sym, ◌∙◌}
 use mathlib.Core.Logic.{◌↔◌, ◌≢◌, ◌⊎◌, inl, inr}
 use lib.ListN.{length, take}
 use Rattle.meaning.specs.declared.Order.{Order}

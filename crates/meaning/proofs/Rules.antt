@@ -2,9 +2,9 @@
 -- through both alike, so here each is stated a second time as a rule, and the two are proved to say the same.
 use Prim.Native.Nat.{ℕ, zero, suc, ◌+◌, ◌≤◌, ◌<◌}
 use native.Mathlib.Omega.{arith}
-use mathlib.Core.Bool.{Bool, true, false, ◌&&◌}
+use mathlib.Core.Bool.{Bool, ◌&&◌}
 use mathlib.Core.List.{List, [], ◌∷◌, map}
-use mathlib.Core.Path.{◌≡◌, refl, ap₂, sym, subst}
+use mathlib.Core.Path.{◌≡◌, refl, ap₂, subst}
 use mathlib.Core.Logic.{◌↔◌}
 use lib.Dec.{leb, T, leb→le, le→leb}
 use Rattle.meaning.specs.declared.Entry.{Entry}

@@ -1,7 +1,7 @@
 -- The parse accepts exactly the spellings of legal types.
-use Prim.Native.Nat.{ℕ, zero, suc, ◌+◌, ◌≤◌, ◌<◌}
+use Prim.Native.Nat.{ℕ, ◌≤◌}
 use native.Mathlib.Omega.{arith}
-use mathlib.Core.Bool.{Bool, true, false, ◌&&◌, not}
+use mathlib.Core.Bool.{Bool, true, false, ◌&&◌}
 use mathlib.Core.List.{List, [], ◌∷◌, ◌++◌, append_assoc, append-nil}
 use mathlib.Core.Path.{◌≡◌, refl, ap, sym, subst, ◌∙◌}
 use mathlib.Core.Logic.{◌⊎◌, inl, inr}
@@ -9,8 +9,8 @@ use lib.ListN.{length}
 use lib.Dec.{leb, ltb, eqb, T, eqb→eq, leb→le, le→leb}
 use Rattle.meaning.proofs.Bases.{for-fix, for-base}
 use Rattle.meaning.specs.Text.{lead, scan, utf8}
-use Rattle.meaning.specs.Types.{Fix, byte, bool, i16, u16, i32, u32, i64, u64, dbl, fd, Base, fix, str, path, sig, Form, in_array, loose, Ty, base, arr, dict, struct, variant, Tys, one, more}
-use Rattle.meaning.specs.Signature.{code_fix, code, opening, spell, spells, spell_all, nest, is_key, not_loose, shape, shapes, legal, Tok, is_base, is_arr, is_var, is_open, is_close, is_curl, is_uncurl, is_bad, code_tok, toks, find, snoc, Stack, floor, open0, open1, in_arr, need_key, need_val, need_end, Step, to, bad, put, keyed, put_base, begin, curl, close, uncurl, step, run, Parsed, types, refused, all_legal, all_nest, finish, parse}
+use Rattle.meaning.specs.Types.{Base, fix, str, Form, in_array, loose, Ty, base, arr, dict, struct, variant, Tys, one, more}
+use Rattle.meaning.specs.Signature.{code, opening, spell, spells, spell_all, nest, is_key, not_loose, shape, shapes, legal, Tok, is_base, is_arr, is_var, is_open, is_close, is_curl, is_uncurl, is_bad, code_tok, toks, find, snoc, Stack, floor, open0, open1, in_arr, need_key, need_val, need_end, Step, to, bad, put, keyed, put_base, begin, curl, close, uncurl, step, run, Parsed, types, refused, all_legal, all_nest, finish, parse}
 use Rattle.meaning.specs.declared.Fault.TheVariants.{InvalidSignature, EmptyStruct, SignatureTooLong, NestingTooDeep}
 use Rattle.meaning.specs.declared.Fault.{Fault}
 use Rattle.meaning.proofs.Booleans.{and_left, and_right, and_both}

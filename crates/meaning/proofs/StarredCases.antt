@@ -1,6 +1,6 @@
 -- Document 01, "Bytes to try": the starred cases, computed from the definitions. One table, one claim.
 use Prim.Native.Nat.{ℕ}
-use mathlib.Core.List.{List, [], ◌∷◌, ◌++◌, map}
+use mathlib.Core.List.{List, [], ◌∷◌, map}
 use mathlib.Core.Path.{◌≡◌, refl}
 use lib.IntN.{negsuc}
 use lib.ListN.{replicate}
@@ -11,13 +11,12 @@ use Rattle.meaning.specs.Signature.{spell, nest, shape, legal, find, snoc, put, 
 use Rattle.meaning.specs.Number.{digits, value, store, load, gap, zeros}
 use Rattle.meaning.specs.Text.{lead, scan, utf8, no_zero, names, is_path}
 use Rattle.meaning.specs.ReadValue.{taken, no, padding, read_fix, sized_r, read_text, read_path, read_sig, accept, read_g, bare_r, base_r, elements, length_r, array_of, array_r, pair_r, read, single, variant_of, read_var, read_top, check_at, check_value}
-use Rattle.meaning.specs.declared.Fault.TheVariants.{NotEnoughBytes, NotEnoughBytesForCollection, PaddingContainedData, InvalidBoolean, StringContainsNullByte, MissingTerminator, InvalidSignature, EmptySignature, EmptyStruct, SignatureTooLong, NestingTooDeep, WrongSignature, VariantTooDeep}
+use Rattle.meaning.specs.declared.Fault.TheVariants.{NotEnoughBytes, NotEnoughBytesForCollection, PaddingContainedData, InvalidBoolean, MissingTerminator}
 use Rattle.meaning.specs.FixedValue.{fixed_value, read_fixed}
 use Rattle.meaning.specs.declared.FixedRead.TheVariants.{Read}
 use Rattle.meaning.specs.declared.FixedValue.TheVariants.{Int16}
 use Rattle.meaning.specs.declared.Order.TheVariants.{Little}
 use Rattle.meaning.specs.declared.Checked.{Checked}
-use Rattle.meaning.specs.declared.Fault.{Fault}
 
 pub record Case : Type 0 where
   pub type : List ℕ

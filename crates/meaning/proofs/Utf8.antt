@@ -1,14 +1,13 @@
 -- UTF-8 as RFC 3629 defines it, from scalar values; and that the scan accepts exactly that.
 use Prim.Native.Nat.{ℕ, zero, suc, ◌+◌, ◌-◌, ◌*◌, ◌/◌, ◌%◌, ◌≤◌, ◌<◌}
 use native.Mathlib.Omega.{arith}
-use mathlib.Core.Bool.{Bool, true, false, ◌&&◌}
-use mathlib.Core.List.{List, [], ◌∷◌, ◌++◌, append_assoc}
+use mathlib.Core.Bool.{Bool, true, false}
+use mathlib.Core.List.{List, [], ◌∷◌, ◌++◌}
 use mathlib.Core.Path.{◌≡◌, refl, ap, ap₂, sym, subst, ◌∙◌}
-use mathlib.Core.Logic.{◌⊎◌, inl, inr, ◌↔◌}
-use lib.ListN.{length}
-use lib.Dec.{eqb-suc-zero, leb, ltb, eqb, T, leb→le, le→leb}
+use mathlib.Core.Logic.{◌⊎◌, inl, inr}
+use lib.Dec.{eqb-suc-zero, leb, ltb, T, leb→le}
 use Rattle.meaning.proofs.Local.{Cmp, is_le, is_gt, cmp, leb-true, leb-false}
-use Rattle.meaning.specs.Text.{Scalar, pick, encode, encode_all, All, IsUtf8, between, Lead, follow, no_lead, or, lead, scan, utf8}
+use Rattle.meaning.specs.Text.{Scalar, encode, encode_all, All, IsUtf8, between, follow, no_lead, lead, scan, utf8}
 use Rattle.meaning.proofs.Booleans.{and_left, and_right}
 
 below : (c n : ℕ) → c < n → ltb c n ≡ true

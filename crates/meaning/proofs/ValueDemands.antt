@@ -1,22 +1,22 @@
 -- Demands 2 and 3 of the answer that the check of a value gives.
-use Prim.Native.Nat.{ℕ, zero, suc, ◌+◌, ◌-◌, ◌%◌, ◌≤◌, ◌<◌}
+use Prim.Native.Nat.{ℕ, ◌+◌, ◌-◌, ◌≤◌, ◌<◌}
 use native.Mathlib.Omega.{arith}
 use mathlib.Core.Bool.{Bool, true, false, ◌||◌}
-use mathlib.Core.List.{List, [], ◌∷◌, ◌++◌}
-use mathlib.Core.Path.{◌≡◌, refl, ap, ap₂, sym, subst, ◌∙◌}
+use mathlib.Core.List.{List, ◌++◌}
+use mathlib.Core.Path.{◌≡◌, refl, ap, sym, subst, ◌∙◌}
 use mathlib.Core.Logic.{◌↔◌, ◌≢◌, ◌⊎◌, inl, inr}
-use lib.ListN.{length, take, drop, length-append}
-use lib.Dec.{leb, T, eqb, eqb→eq}
+use lib.ListN.{length, take}
+use lib.Dec.{T, eqb, eqb→eq}
 use lib.Seq.{length-take-le}
 use Rattle.meaning.specs.Reader.{Res, got, fault, R}
-use Rattle.meaning.proofs.Local.{Local, short, leb-true, same_first, cut_short, le-append}
+use Rattle.meaning.proofs.Local.{short, leb-true, same_first, cut_short, le-append}
 use Rattle.meaning.specs.Types.{Ty, Value}
-use Rattle.meaning.specs.Signature.{parse, Parsed, types, refused}
+use Rattle.meaning.specs.Signature.{parse}
 use Rattle.meaning.specs.declared.Checked.TheVariants.{Accepted, Refused}
 use Rattle.meaning.specs.declared.Checked.{Checked}
 use Rattle.meaning.proofs.NumberLaws.{Bytes}
 use Rattle.meaning.specs.Value.{Encodes}
-use Rattle.meaning.specs.ReadValue.{read_top, taken, no, checked_of, check_at, Opt, the, not1, only_one, check_value}
+use Rattle.meaning.specs.ReadValue.{read_top, taken, checked_of, check_at, the, only_one, check_value}
 use Rattle.meaning.proofs.ValueLocal.{read_top-local}
 use Rattle.meaning.proofs.ValueMeets.{accepted-encodes, encodes-accepted}
 use Rattle.meaning.specs.declared.Refusal.{Refusal}

@@ -1,21 +1,18 @@
 -- Demand 3 for values: every reader of ReadValue.antt is local, by its combinators.
-use Prim.Native.Nat.{ℕ, zero, suc, ◌+◌, ◌%◌, ◌≤◌, ◌<◌}
+use Prim.Native.Nat.{ℕ, zero, suc, ◌%◌}
 use native.Mathlib.Omega.{arith}
-use mathlib.Core.Bool.{Bool, true, false}
-use mathlib.Core.List.{List, [], ◌∷◌, ◌++◌}
-use mathlib.Core.Path.{◌≡◌, refl}
-use lib.ListN.{length, take, drop}
-use lib.Dec.{ltb, eqb}
-use Rattle.meaning.specs.Reader.{Res, got, fault, R, ret, here, fail, ◌>>=◌, ◌>>◌, check, bytes, ahead, within, many}
+use mathlib.Core.Bool.{Bool}
+use mathlib.Core.List.{List, [], ◌∷◌}
+use mathlib.Core.Path.{refl}
+use lib.Dec.{eqb}
+use Rattle.meaning.specs.Reader.{R, ret, here, ◌>>=◌, ◌>>◌, check, within, many}
 use Rattle.meaning.proofs.Local.{Local, Bounded, Full, bind-local, bind-bounded, bind-full, bind_inv, ret-local, here-local, fail-local, check-local, bytes-local, ahead-local, window-local, window-end, many-bounded, many-full}
-use Rattle.meaning.specs.Types.{Fix, Base, fix, str, path, sig, Ty, base, arr, dict, struct, variant, Tys, one, more, Raw, Of, Ofs, Var, Value, size, top, align_base, align, whole}
-use Rattle.meaning.specs.Signature.{parse, Parsed, types, refused}
-use Rattle.meaning.specs.Number.{load, gap, zeros}
-use Rattle.meaning.specs.Text.{utf8, no_zero, is_path}
+use Rattle.meaning.specs.Types.{Fix, Base, fix, str, path, sig, Ty, base, arr, dict, struct, variant, Tys, one, more, align, whole}
+use Rattle.meaning.specs.Signature.{Parsed, types, refused}
+use Rattle.meaning.specs.Text.{no_zero}
 use Rattle.meaning.specs.ReadValue.{any, padding, read_fix, sized_r, read_text, read_path, read_sig, accept, read_g, bare_r, base_r, elements, length_r, contents_of, array_of, array_r, pair_r, and_r, read, reads, single, variant_of, read_var, read_top}
 use Rattle.meaning.specs.declared.Fault.TheVariants.{NotEnoughBytes, NotEnoughBytesForCollection, EmptySignature, WrongSignature}
 use Rattle.meaning.specs.declared.Order.{Order}
-use Rattle.meaning.specs.declared.Fault.{Fault}
 
 ruleset local = (bind-local, ret-local, here-local, fail-local, check-local, bytes-local)
 

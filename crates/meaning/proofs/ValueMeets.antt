@@ -1,24 +1,22 @@
 -- Demand 2 for every value.
-use Prim.Native.Nat.{ℕ, zero, suc, ◌+◌, ◌-◌, ◌*◌, ◌/◌, ◌%◌, ◌^◌, ◌≤◌, ◌<◌}
+use Prim.Native.Nat.{ℕ, zero, suc, ◌+◌, ◌%◌, ◌≤◌}
 use native.Mathlib.Omega.{arith}
-use native.Mathlib.Nat.{add-mod_right, add-mod_left, mod-one}
+use native.Mathlib.Nat.{add-mod_right, add-mod_left}
 use mathlib.Core.Bool.{Bool, true, false, ◌&&◌}
-use mathlib.Core.List.{List, [], ◌∷◌, ◌++◌, append_assoc, append-nil}
+use mathlib.Core.List.{List, [], ◌∷◌, append-nil}
 use mathlib.Core.Path.{◌≡◌, refl, ap, sym, subst, ◌∙◌}
-use mathlib.Core.Logic.{◌↔◌}
-use lib.ListN.{length, take, drop, length-append, take-append-drop, length-drop}
-use lib.Seq.{length-take-le, drop-drop}
+use lib.ListN.{length, take, drop, length-append}
 use lib.Dec.{T, lit≤}
 use Rattle.meaning.proofs.Bases.{by_size}
-use Rattle.meaning.specs.Reader.{Res, got, fault, R, ret, here, fail, ◌>>=◌, ◌>>◌, check, bytes}
+use Rattle.meaning.specs.Reader.{got, R, ret, here, fail, ◌>>=◌, ◌>>◌}
 use Rattle.meaning.proofs.Local.{Local, bind_inv, bind-got, ret_inv}
-use Rattle.meaning.specs.Types.{Fix, byte, bool, i16, u16, i32, u32, i64, u64, dbl, fd, Base, fix, str, path, sig, Ty, base, arr, dict, struct, variant, Tys, one, more, Raw, Of, Ofs, Var, Value, size, top, align_base, align, whole, whole_fix}
-use Rattle.meaning.specs.Signature.{parse, Parsed, types, refused, legal, all_legal, spell, spell_all}
-use Rattle.meaning.specs.Number.{store, load, gap, zeros}
+use Rattle.meaning.specs.Types.{Fix, byte, bool, i16, u16, i32, u32, i64, u64, dbl, fd, Base, fix, str, path, sig, Ty, base, arr, dict, struct, variant, Tys, one, more, Raw, Of, Ofs, Var, Value, size, align_base, align, whole, whole_fix}
+use Rattle.meaning.specs.Signature.{parse, legal, all_legal, spell, spell_all}
+use Rattle.meaning.specs.Number.{store, gap}
 use Rattle.meaning.proofs.NumberLaws.{Bytes, length-store}
 use Rattle.meaning.specs.Value.{Layout, ◌▹◌, pad, raw, each, counted, Cond, ok_pad, ok_then, Each, first, ok_counted, sized, bare, enc_base, OkBase, enc, encs, Ok, Oks, enc_var, OkVar, encode, Fits, Encodes}
-use Rattle.meaning.specs.ReadValue.{padding, read_sig, accept, single, bare_r, base_r, elements, array_r, pair_r, read, reads, variant_of, read_var, read_top}
-use Rattle.meaning.proofs.ValueLocal.{padding-local, base_r-local, pair_r-local, read-local, reads_local, read_sig-local, accept-local, read_var-local, read_top-local}
+use Rattle.meaning.specs.ReadValue.{padding, read_sig, accept, single, base_r, elements, array_r, pair_r, read, reads, variant_of, read_var, read_top}
+use Rattle.meaning.proofs.ValueLocal.{padding-local, base_r-local, pair_r-local, read-local, read_sig-local, accept-local, read_var-local, read_top-local}
 use Rattle.meaning.proofs.Local.{bind-local}
 use Rattle.meaning.proofs.Meets.{At, at_read, at-then, then_at, at-bytes, Meets, here-bind, length-pad, padded, paired, headed, elements-fill, mid_le}
 use Rattle.meaning.proofs.BaseMeets.{bases, sig-sound, sig-complete}

@@ -1,5 +1,5 @@
 -- A value of fixed width with its kind: document 01, port order 6, the value reader.
-use Rattle.std.specs.Prelude.{ℕ, ◌-◌, ◌^◌, Bool, true, false, List, length, leb, ltb, eqb, ℤ, pos, negsuc}
+use Rattle.std.specs.Prelude.{ℕ, ◌-◌, ◌^◌, true, false, List, length, leb, ltb, eqb, ℤ, pos, negsuc}
 use Rattle.std.specs.Float.{binary64}
 use Rattle.std.specs.Float.Ieee.{nan_bits, of_bits}
 use Rattle.meaning.specs.declared.Order.{Order}
@@ -10,7 +10,7 @@ use Rattle.meaning.specs.declared.FixedRead.{FixedRead}
 use Rattle.meaning.specs.declared.FixedRead.TheVariants.{Read, Refused}
 use Rattle.meaning.specs.Faults.{refusal}
 use Rattle.meaning.specs.Reader.{Res, got, fault}
-use Rattle.meaning.specs.Types.{Fix, byte, bool, i16, u16, i32, u32, i64, u64, dbl, fd, Base, fix, str, path, sig, Ty, base, arr, dict, struct, variant}
+use Rattle.meaning.specs.Types.{Fix, byte, bool, i16, u16, i32, u32, i64, u64, dbl, fd, fix, str, path, sig, base, arr, dict, struct, variant}
 use Rattle.meaning.specs.Signature.{parse}
 use Rattle.meaning.specs.Text.{pick}
 use Rattle.meaning.specs.ReadValue.{base_r, Opt, the, not1, only_one}

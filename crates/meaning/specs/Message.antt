@@ -1,7 +1,7 @@
 -- What a message's bytes are, made from its parts (the Specification, "Message Protocol", as document 01 amends it). It begins at byte 0.
 use Rattle.std.specs.Prelude.{ℕ, zero, suc, ◌+◌, ◌^◌, ◌≤◌, ◌<◌, Bool, true, false, ◌&&◌, List, [], ◌∷◌, ◌++◌, ◌≡◌, length, take, leb, eqb, T}
-use Rattle.meaning.specs.Types.{Fix, u32, Base, fix, str, path, sig, Ty, base, arr, dict, struct, variant, Of, Var, Value}
-use Rattle.meaning.specs.Signature.{spell, spell_all, all_legal}
+use Rattle.meaning.specs.Types.{u32, Base, fix, str, path, sig, Ty, base, arr, dict, struct, variant, Var, Value}
+use Rattle.meaning.specs.Signature.{spell_all, all_legal}
 use Rattle.meaning.specs.Number.{store, gap}
 use Rattle.meaning.specs.Value.{Layout, ◌▹◌, pad, raw, each, Cond, ok_pad, ok_then, Each, OkLength, enc_var, OkVar, encode, Fits}
 use Rattle.meaning.specs.declared.Order.{Order}

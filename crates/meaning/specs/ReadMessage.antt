@@ -1,12 +1,12 @@
 -- The stated order for messages: document 01, port order 5. "A message begins at byte 0."
-use Rattle.std.specs.Prelude.{ℕ, zero, suc, ◌+◌, Bool, true, false, ◌&&◌, ◌||◌, List, [], ◌∷◌, ◌++◌, length, take, drop, get_or, leb, eqb}
-use Rattle.meaning.specs.Reader.{Res, got, fault, stop, R, ret, here, fail, ◌>>=◌, ◌>>◌, check, bytes, inside, many}
-use Rattle.meaning.specs.Types.{Base, fix, Ty, base, arr, dict, struct, variant, Of, Var, Value}
+use Rattle.std.specs.Prelude.{ℕ, ◌+◌, Bool, true, false, ◌||◌, List, [], ◌∷◌, length, take, drop, get_or, leb, eqb}
+use Rattle.meaning.specs.Reader.{Res, got, fault, stop, R, ret, fail, ◌>>=◌, ◌>>◌, check, bytes, inside, many}
+use Rattle.meaning.specs.Types.{Ty, base, arr, dict, struct, variant}
 use Rattle.meaning.specs.Signature.{code, parse, Parsed, types, refused}
 use Rattle.meaning.specs.Number.{load, gap}
 use Rattle.meaning.specs.Text.{pick, between}
 use Rattle.meaning.specs.ReadValue.{padding, read_sig, accept, length_r, pair_r, and_r, read, read_var, read_top, checked_of}
-use Rattle.meaning.specs.Message.{Wants, nothing, exactly, anything, wants, Field, complete, text, body_signature, Values, Fixed, Message}
+use Rattle.meaning.specs.Message.{Wants, nothing, exactly, anything, wants, Field, complete, body_signature, Values, Fixed, Message}
 use Rattle.meaning.specs.declared.MessageType.{MessageType}
 use Rattle.meaning.specs.declared.MessageType.TheVariants.{Call, Reply, Error, Signal}
 use Rattle.meaning.specs.declared.Checked.{Checked}

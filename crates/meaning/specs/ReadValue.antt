@@ -1,11 +1,10 @@
 -- The stated order for values: document 01, port order 2 to 4. Each reader refuses with the first fault of that order.
-use Rattle.std.specs.Prelude.{ℕ, zero, suc, ◌+◌, ◌-◌, ◌%◌, Bool, true, false, ◌&&◌, List, [], ◌∷◌, ◌++◌, length, take, drop, leb, ltb, eqb}
+use Rattle.std.specs.Prelude.{ℕ, zero, suc, ◌+◌, ◌-◌, ◌%◌, Bool, true, false, List, [], ◌∷◌, length, take, drop, leb, ltb, eqb}
 use Rattle.meaning.specs.Reader.{Res, got, fault, R, ret, here, fail, ◌>>=◌, ◌>>◌, check, bytes, ahead, within, many}
 use Rattle.meaning.specs.Types.{Fix, byte, bool, i16, u16, i32, u32, i64, u64, dbl, fd, Base, fix, str, path, sig, Ty, base, arr, dict, struct, variant, Tys, one, more, Raw, Of, Ofs, Var, Value, size, align_base, align, whole}
-use Rattle.meaning.specs.Signature.{spell, legal, parse, Parsed, types, refused}
+use Rattle.meaning.specs.Signature.{parse, Parsed, types, refused}
 use Rattle.meaning.specs.Number.{load, gap, zeros}
 use Rattle.meaning.specs.Text.{utf8, no_zero, is_path}
-use Rattle.meaning.specs.declared.Refusal.{Refusal}
 use Rattle.meaning.specs.declared.Fault.{Fault}
 use Rattle.meaning.specs.declared.Fault.TheVariants.{BadOffset, NotEnoughBytes, PaddingContainedData, InvalidBoolean, InvalidUtf8, StringContainsNullByte, MissingTerminator, InvalidObjectPath, EmptySignature, WrongSignature, VariantTooDeep, BadArgument}
 use Rattle.meaning.specs.declared.Checked.{Checked}

@@ -1,5 +1,5 @@
 -- What the entry points that read an integer or padding answer: document 01, port order 1.
-use Rattle.std.specs.Prelude.{ℕ, ◌+◌, Bool, true, false, List, length, leb}
+use Rattle.std.specs.Prelude.{ℕ, true, false, List, length, leb}
 use Rattle.meaning.specs.declared.Order.{Order}
 use Rattle.meaning.specs.declared.Fault.TheVariants.{BadOffset, BadAlignment}
 use Rattle.meaning.specs.declared.Checked.{Checked}

@@ -1,5 +1,5 @@
 -- The types of the Specification ("Type System"), and the values of each. Alignments and sizes stand here, by type.
-use Rattle.std.specs.Prelude.{ℕ, zero, suc, ◌^◌, Bool, true, false, List}
+use Rattle.std.specs.Prelude.{ℕ, zero, suc, ◌^◌, List}
 
 -- the basic types of fixed size
 pub data Fix : Type 0 where

@@ -1,6 +1,6 @@
 -- What a value's bytes are, made from the value, its type, the byte order and the offset (the Specification, "Marshaling (Wire Format)").
 -- Nothing here knows of the check.
-use Rattle.std.specs.Prelude.{ℕ, zero, suc, ◌+◌, ◌^◌, ◌≤◌, ◌<◌, Bool, true, false, ◌&&◌, List, [], ◌∷◌, ◌++◌, ◌≡◌, length, take, drop, replicate, T}
+use Rattle.std.specs.Prelude.{ℕ, zero, suc, ◌+◌, ◌^◌, ◌≤◌, ◌<◌, List, [], ◌∷◌, ◌++◌, ◌≡◌, length, take, drop, replicate, T}
 use Rattle.meaning.specs.Types.{Base, fix, str, path, sig, Ty, base, arr, dict, struct, variant, Tys, one, more, Raw, Of, Ofs, Var, Value, size, top, align_base, align}
 use Rattle.meaning.specs.Signature.{spell, spell_all, legal, all_legal}
 use Rattle.meaning.specs.Number.{store, gap}

@@ -1,5 +1,5 @@
 -- What a write answers and what it leaves in the buffer: document 01, "Order for a write", and port order 6.
-use Rattle.std.specs.Prelude.{ℕ, ◌+◌, ◌^◌, Bool, true, false, ◌||◌, List, [], ◌∷◌, ◌++◌, length, take, drop, replicate, leb, ltb, eqb}
+use Rattle.std.specs.Prelude.{ℕ, ◌+◌, ◌^◌, Bool, true, false, ◌||◌, List, ◌++◌, length, take, drop, replicate, leb, ltb, eqb}
 use Rattle.meaning.specs.declared.Order.{Order}
 use Rattle.meaning.specs.declared.Fault.{Fault}
 use Rattle.meaning.specs.declared.Fault.TheVariants.{BadOffset, InvalidUtf8, StringContainsNullByte, NoRoom, BadAlignment, TextTooLong}

@@ -34,7 +34,7 @@ pub enum Walked {
 }
 
 // A value of the type at `at`: the first code of the type says who checks it.
-#[cycle(array_composites_element_elements_entry_fields_structure_value_variant)]
+#[cycle(walk)]
 pub fn value(order: Order, sig: &[u8], buf: &[u8], end: usize, at: Spot, left: Left) -> Walked
     requires typed { Typed sig.now at.sig.0 }
     requires window { Window buf.now end at.buf.0 }
@@ -68,7 +68,7 @@ pub fn value(order: Order, sig: &[u8], buf: &[u8], end: usize, at: Spot, left: L
 }
 
 // A struct, whose opening bracket stands at `at`: padding, and its fields.
-#[cycle(array_composites_element_elements_entry_fields_structure_value_variant)]
+#[cycle(walk)]
 fn structure(order: Order, sig: &[u8], buf: &[u8], end: usize, at: Spot, left: Left) -> Walked
     requires typed { Typed sig.now at.sig.0 }
     requires bracket { get_or sig.now at.sig.0 0 ≡ 40 }
@@ -95,7 +95,7 @@ fn structure(order: Order, sig: &[u8], buf: &[u8], end: usize, at: Spot, left: L
 }
 
 // The fields of a struct from `at` on, up to its closing bracket. Basic values are checked here, for speed.
-#[cycle(array_composites_element_elements_entry_fields_structure_value_variant)]
+#[cycle(walk)]
 fn fields(order: Order, sig: &[u8], buf: &[u8], end: usize, at: Spot, left: Left) -> Walked
     requires fields_typed { FieldsTyped sig.now at.sig.0 }
     requires window { Window buf.now end at.buf.0 }
@@ -146,7 +146,7 @@ fn fields(order: Order, sig: &[u8], buf: &[u8], end: usize, at: Spot, left: Left
 }
 
 // An array or a dict, whose type stands at `at`. A dict alone is walked over as one in an array is.
-#[cycle(array_composites_element_elements_entry_fields_structure_value_variant)]
+#[cycle(walk)]
 fn array(order: Order, sig: &[u8], buf: &[u8], end: usize, at: Spot, left: Left) -> Walked
     requires holds_items { HoldsItems sig.now at.sig.0 }
     requires window { Window buf.now end at.buf.0 }
@@ -188,7 +188,7 @@ fn array(order: Order, sig: &[u8], buf: &[u8], end: usize, at: Spot, left: Left)
 }
 
 // Elements or entries of the type at `at`, which fill the bytes up to `stop`.
-#[cycle(array_composites_element_elements_entry_fields_structure_value_variant)]
+#[cycle(walk)]
 fn elements(order: Order, sig: &[u8], buf: &[u8], stop: usize, at: Spot, left: Left) -> Walked
     requires typed { Typed sig.now at.sig.0 }
     requires window { Window buf.now stop at.buf.0 }
@@ -212,7 +212,7 @@ fn elements(order: Order, sig: &[u8], buf: &[u8], stop: usize, at: Spot, left: L
 }
 
 // The same where they are no basic values: one loop for elements and entries. Where there is none, none says where its type ends.
-#[cycle(array_composites_element_elements_entry_fields_structure_value_variant)]
+#[cycle(walk)]
 fn composites(order: Order, sig: &[u8], buf: &[u8], stop: usize, at: Spot, left: Left) -> Walked
     requires typed { Typed sig.now at.sig.0 }
     requires window { Window buf.now stop at.buf.0 }
@@ -257,7 +257,7 @@ fn composites(order: Order, sig: &[u8], buf: &[u8], stop: usize, at: Spot, left:
 }
 
 // One element of an array, or one entry of a dict: no array has dicts alone for elements.
-#[cycle(array_composites_element_elements_entry_fields_structure_value_variant)]
+#[cycle(walk)]
 fn element(order: Order, sig: &[u8], buf: &[u8], end: usize, at: Spot, left: Left) -> Walked
     requires typed { Typed sig.now at.sig.0 }
     requires window { Window buf.now end at.buf.0 }
@@ -273,7 +273,7 @@ fn element(order: Order, sig: &[u8], buf: &[u8], end: usize, at: Spot, left: Lef
 }
 
 // One entry of a dict, whose opening bracket stands at `at`: padding, a key, and a value. Its type ends past the closing bracket.
-#[cycle(array_composites_element_elements_entry_fields_structure_value_variant)]
+#[cycle(walk)]
 fn entry(order: Order, sig: &[u8], buf: &[u8], end: usize, at: Spot, left: Left) -> Walked
     requires typed { Typed sig.now at.sig.0 }
     requires bracket { get_or sig.now at.sig.0 0 ≡ 123 }
@@ -315,7 +315,7 @@ fn entry(order: Order, sig: &[u8], buf: &[u8], end: usize, at: Spot, left: Left)
 }
 
 // A variant: its signature, and then a value of that type, for which one level less is left.
-#[cycle(array_composites_element_elements_entry_fields_structure_value_variant)]
+#[cycle(walk)]
 fn variant(order: Order, buf: &[u8], end: usize, off: usize, left: Left) -> Reached
     requires { Window buf.now end off }
     ensures { result ≡ reached_of (read_var order left.levels (take end buf.now) off) }

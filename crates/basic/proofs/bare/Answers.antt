@@ -32,6 +32,6 @@ returns-in-98 c = λ b e. as-base _ _ _ (fix bool) _ (same_code b (fix bool) (sy
 pub returns-in_default : goal.returns-in_default
 unfolding bare_r
 returns-in_default c =
-    λ b e. (let n = is_number b (λ z. c.in_default.rest.0.0.0.1 (e ∙ z)) (λ z. c.in_default.rest.0.0.1 (e ∙ z)) (λ z. c.in_default.rest.0.1 (e ∙ z))
-    (λ z. c.in_default.rest.1 (e ∙ z)) in as-base _ _ _ (fix n.of) _ n.is
+    λ b e. (let n = is_number b (λ z. c.in_default.in_default-own.rest.0.0.0.1 (e ∙ z)) (λ z. c.in_default.in_default-own.rest.0.0.1 (e ∙ z)) (λ z. c.in_default.in_default-own.rest.0.1 (e ∙ z))
+    (λ z. c.in_default.in_default-own.rest.1 (e ∙ z)) in as-base _ _ _ (fix n.of) _ n.is
     (c.fixed.ensures _ n.of n.any (c.size.ensures ∙ ap size_code (e ∙ ap code n.is) ∙ size-fix n.of)))

@@ -28,8 +28,8 @@ loop-at-smaller c =
     let start = c in
     let the-loop = c.loop-at in
     let base = c.base in
-    let m = (let b = start.requires.0 in
-    moved (base_r start.args.order b.of) (base_r-local _ b.of) (base-grows _ b.of) _ _ start.requires.1.held _ _ _ the-loop.invariant.1
+    let m = (let b = start.requires.base_code in
+    moved (base_r start.args.order b.of) (base_r-local _ b.of) (base-grows _ b.of) _ _ start.requires.window.held _ _ _ the-loop.invariant.1
     (base.ensures b.of b.is) c.in-At.is) in omega arith
 
 pub loop-at-preserved : goal.loop-at-preserved
@@ -38,12 +38,12 @@ loop-at-preserved c =
     let the-loop = c.loop-at in
     let loop-test = c.loop-at-test in
     let base = c.base in
-    let m = (let b = start.requires.0 in
-    moved (base_r start.args.order b.of) (base_r-local _ b.of) (base-grows _ b.of) _ _ start.requires.1.held _ _ _ the-loop.invariant.1
+    let m = (let b = start.requires.base_code in
+    moved (base_r start.args.order b.of) (base_r-local _ b.of) (base-grows _ b.of) _ _ start.requires.window.held _ _ _ the-loop.invariant.1
     (base.ensures b.of b.is) c.in-At.is) in (
       omega arith,
       m.1,
-      λ b e. turned (base_r _ b) (base_r-local _ b) (base-grows _ b) _ _ start.requires.1.held _ _ _ _ _ (the-loop.invariant.2 b e)
+      λ b e. turned (base_r _ b) (base_r-local _ b) (base-grows _ b) _ _ start.requires.window.held _ _ _ _ _ (the-loop.invariant.2 b e)
           loop-test.true (base.ensures b e) c.in-At.is,
     )
 

@@ -16,7 +16,7 @@ use Rattle.meaning.specs.declared.Reached.TheVariants.{At, Refused}
 use Rattle.meaning.specs.declared.Entry.TheVariants.{Absent}
 use Rattle.meaning.specs.declared.Fault.TheVariants.{NotEnoughBytes, WrongSignature, InvalidHeaderField}
 use Rattle.meaning.specs.Faults.{refusal}
-use Rattle.meaning.specs.Types.{Base, fix, u32, str, path, sig, Ty, base, arr, dict, struct, variant, Raw, Var}
+use Rattle.meaning.specs.Types.{byte, bool, i16, u16, i32, i64, u64, dbl, fd, Base, fix, u32, str, path, sig, Ty, base, arr, dict, struct, variant, Raw, Var}
 use Rattle.meaning.specs.Signature.{code, parse, spell}
 use Rattle.meaning.specs.Places.{TypeAt, Typed}
 use Rattle.meaning.specs.Message.{Wants, nothing, exactly, anything, wants, Field}
@@ -93,6 +93,15 @@ module _ (o : Order) (buf : List ℕ) (end off f s : ℕ) (h : One o buf end off
       some-code str string z = omega arith
       some-code path object z = omega arith
       some-code sig spelling z = omega arith
+      some-code (fix byte) r z = elim r [ ]
+      some-code (fix bool) r z = elim r [ ]
+      some-code (fix i16) r z = elim r [ ]
+      some-code (fix u16) r z = elim r [ ]
+      some-code (fix i32) r z = elim r [ ]
+      some-code (fix i64) r z = elim r [ ]
+      some-code (fix u64) r z = elim r [ ]
+      some-code (fix dbl) r z = elim r [ ]
+      some-code (fix fd) r z = elim r [ ]
 
       go : (t : Ty) → TypeAt t (take (s - f) (drop f buf)) 0 (s - f) → code_of t ≡ code k → ⊥
       go (base d) a z = q (sym head_byte ∙ first a ∙ z ∙ sym e)

@@ -13,7 +13,7 @@ use Rattle.meaning.specs.declared.Reached.TheVariants.{At, Refused}
 use Rattle.meaning.specs.declared.Entry.{Entry}
 use Rattle.meaning.specs.declared.Entry.TheVariants.{Number, Text}
 use Rattle.meaning.specs.declared.Fault.TheVariants.{InvalidBoolean, InvalidObjectPath}
-use Rattle.meaning.specs.Types.{Base, fix, u32, str, path, sig, Raw, base, align_base}
+use Rattle.meaning.specs.Types.{byte, bool, i16, u16, i32, i64, u64, dbl, fd, Base, fix, u32, str, path, sig, Raw, base, align_base}
 use Rattle.meaning.specs.Signature.{code, parse}
 use Rattle.meaning.specs.Number.{load}
 use Rattle.meaning.specs.Text.{no_zero, is_path}
@@ -80,6 +80,15 @@ module _ (o : Order) (c k : ℕ) (b : Base) (b8 : Kept b) (is : k ≡ code b) (s
       go str string i v h = absurd (omega arith)
       go path object i v h = absurd (omega arith)
       go sig spelling i v h = absurd (omega arith)
+      go (fix byte) r i v h = elim r [ ]
+      go (fix bool) r i v h = elim r [ ]
+      go (fix i16) r i v h = elim r [ ]
+      go (fix u16) r i v h = elim r [ ]
+      go (fix i32) r i v h = elim r [ ]
+      go (fix i64) r i v h = elim r [ ]
+      go (fix u64) r i v h = elim r [ ]
+      go (fix dbl) r i v h = elim r [ ]
+      go (fix fd) r i v h = elim r [ ]
 
   spelling-entry : k ≡ 103 → (p + 1 + 1 ≤ e) × (Text (record { 0 = p + 1 }) (record { 0 = e - 1 - (p + 1) }) ≡ entry_as e (base b, v))
   unfolding bare_r
@@ -90,6 +99,15 @@ module _ (o : Order) (c k : ℕ) (b : Base) (b8 : Kept b) (is : k ≡ code b) (s
       go str string i v h = absurd (omega arith)
       go path object i v h = absurd (omega arith)
       go sig spelling i v h = entry-is p 1 e v (spelling-ends o s p v e h)
+      go (fix byte) r i v h = elim r [ ]
+      go (fix bool) r i v h = elim r [ ]
+      go (fix i16) r i v h = elim r [ ]
+      go (fix u16) r i v h = elim r [ ]
+      go (fix i32) r i v h = elim r [ ]
+      go (fix i64) r i v h = elim r [ ]
+      go (fix u64) r i v h = elim r [ ]
+      go (fix dbl) r i v h = elim r [ ]
+      go (fix fd) r i v h = elim r [ ]
 
   text-entry : (k ≡ 117 → ⊥) → (k ≡ 103 → ⊥) → (p + 4 + 1 ≤ e) × (Text (record { 0 = p + 4 }) (record { 0 = e - 1 - (p + 4) }) ≡ entry_as e (base b, v))
   unfolding bare_r
@@ -100,6 +118,15 @@ module _ (o : Order) (c k : ℕ) (b : Base) (b8 : Kept b) (is : k ≡ code b) (s
       go str string i v h = entry-is p 4 e v (text-ends o s p v e h)
       go path object i v h = entry-is p 4 e v (path-ends o s p v e h)
       go sig spelling i v h = absurd (q i)
+      go (fix byte) r i v h = elim r [ ]
+      go (fix bool) r i v h = elim r [ ]
+      go (fix i16) r i v h = elim r [ ]
+      go (fix u16) r i v h = elim r [ ]
+      go (fix i32) r i v h = elim r [ ]
+      go (fix i64) r i v h = elim r [ ]
+      go (fix u64) r i v h = elim r [ ]
+      go (fix dbl) r i v h = elim r [ ]
+      go (fix fd) r i v h = elim r [ ]
 
 -- what the code learns of a value that stands there, by the code of its type
 module _ {o : Order} {k : ℕ} {buf : List ℕ} {at next end c : ℕ} {b : Base} {v : Raw b} (h : Stands o k buf at next end c b v) where

@@ -36,7 +36,7 @@ pub returns-in-Uint32 : goal.returns-in-Uint32
 returns-in-Uint32 c = is c.in-Uint32.is
 
 pub returns-in-Int64 : goal.returns-in-Int64
-returns-in-Int64 c = c.extended-in-Int64.ensures ∙ ap extended (to_z-of_z (search rules)) ∙ is c.in-Int64.is
+returns-in-Int64 c = c.extended-in-Int64.ensures ∙ ap extended (to_z-of_z {w = w64} (search rules)) ∙ is c.in-Int64.is
 
 pub returns-in-Uint64 : goal.returns-in-Uint64
 returns-in-Uint64 c = is c.in-Uint64.is

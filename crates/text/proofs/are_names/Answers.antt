@@ -1,11 +1,9 @@
 -- The loop's invariant: what is left, and whether a slash came last, decides.
-use Prim.Native.Nat.{ℕ, ◌≤◌, ◌-◌}
+use Prim.Native.Nat.{ℕ}
 use mathlib.Core.List.{List}
-use mathlib.Core.Bool.{true}
-use mathlib.Core.Path.{◌≡◌, refl, sym, ◌∙◌}
+use mathlib.Core.Path.{refl, sym, ◌∙◌}
 use native.Mathlib.Omega.{arith}
-use lib.ListN.{length, drop, get_or}
-use Rattle.meaning.specs.Text.{names}
+use lib.ListN.{get_or}
 use Rattle.text.proofs.Classes.{classes, said}
 use Rattle.text.proofs.Names.{name-on, slash-on, slash-twice, other-stop, names-end}
 use Rattle.text.proofs.are_names.Goals as goal

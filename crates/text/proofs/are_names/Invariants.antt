@@ -1,14 +1,9 @@
 -- The loop's invariant: what is left, and whether a slash came last, decides.
-use Prim.Native.Nat.{ℕ, ◌≤◌, ◌-◌}
-use mathlib.Core.List.{List}
+use Prim.Native.Nat.{◌≤◌, ◌-◌}
 use mathlib.Core.Bool.{true}
-use mathlib.Core.Path.{◌≡◌, refl, sym, ◌∙◌}
-use mathlib.Core.Logic.{⊎_elim}
-use native.Mathlib.Omega.{arith}
-use lib.ListN.{length, drop, get_or}
+use mathlib.Core.Path.{◌≡◌}
+use lib.ListN.{length, drop}
 use Rattle.meaning.specs.Text.{names}
-use Rattle.text.proofs.Classes.{classes, said}
-use Rattle.text.proofs.Names.{name-on, slash-on, slash-twice, other-stop, names-end}
 use Rattle.text.proofs.are_names.Given as goal
 
 abbrev pub invariant-loop-i : goal.invariant-loop-i

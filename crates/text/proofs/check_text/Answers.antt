@@ -5,7 +5,6 @@ use native.Mathlib.Omega.{arith}
 use lib.ListN.{drop}
 use Rattle.text.specs.Verdict.{text_fault}
 use Rattle.text.proofs.Scans.{plain-le, plain-skip, plain-whole}
-use borrow.Author.Rules.{rules}
 use Rattle.text.proofs.check_text.Goals as goal
 
 pub returns-then-plain-s : goal.returns-then-plain-s

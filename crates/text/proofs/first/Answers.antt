@@ -5,7 +5,6 @@ use Rattle.meaning.specs.Text.{follow, no_lead}
 use Rattle.text.specs.declared.Step.TheVariants.{Wrong}
 use Rattle.text.proofs.Classes.{lead_of}
 use Rattle.text.proofs.Scans.{by-class}
-use borrow.Author.Rules.{rules}
 use Rattle.text.proofs.first.Goals as goal
 
 pub returns-then-class-lt4 : goal.returns-then-class-lt4

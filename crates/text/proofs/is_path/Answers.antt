@@ -1,7 +1,6 @@
 -- The tests are those of `is_path`, in its order.
 use mathlib.Core.Path.{◌∙◌}
 use Rattle.text.proofs.Names.{path-none, path-first, path-root, path-rest}
-use borrow.Author.Rules.{rules}
 use Rattle.text.proofs.is_path.Goals as goal
 
 pub returns-then-s-eq0 : goal.returns-then-s-eq0

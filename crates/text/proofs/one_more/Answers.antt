@@ -2,7 +2,6 @@
 use native.Mathlib.Omega.{arith}
 use mathlib.Core.Path.{◌∙◌}
 use Rattle.text.proofs.Scans.{below, above, inside}
-use borrow.Author.Rules.{rules}
 use Rattle.text.proofs.one_more.Goals as goal
 
 pub returns-then-left-eq0 : goal.returns-then-left-eq0

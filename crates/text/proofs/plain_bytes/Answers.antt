@@ -1,10 +1,9 @@
 -- The loop's invariant: the bytes passed are plain, so what is left has the rest.
-use Prim.Native.Nat.{ℕ, ◌≤◌, ◌+◌, ◌-◌}
+use Prim.Native.Nat.{ℕ}
 use mathlib.Core.List.{List}
-use mathlib.Core.Path.{◌≡◌, refl}
+use mathlib.Core.Path.{refl}
 use native.Mathlib.Omega.{arith}
-use lib.ListN.{length, drop, get_or}
-use Rattle.text.specs.Verdict.{plain_bytes}
+use lib.ListN.{get_or}
 use Rattle.text.proofs.Scans.{plain-on, plain-zero, plain-high, plain_end}
 use Rattle.text.proofs.plain_bytes.Goals as goal
 

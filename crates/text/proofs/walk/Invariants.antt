@@ -1,15 +1,9 @@
 -- The loop's invariant: the scan of what is left, from where the walk is, decides about UTF-8; and the flag or what is left, about zeros.
-use Prim.Native.Nat.{ℕ, ◌≤◌, ◌-◌}
-use mathlib.Core.List.{List}
+use Prim.Native.Nat.{◌≤◌, ◌-◌}
 use mathlib.Core.Bool.{◌&&◌, not}
-use mathlib.Core.Path.{◌≡◌, refl, ap, ◌∙◌}
-use native.Mathlib.Omega.{arith}
-use lib.ListN.{length, drop, get_or}
-use borrow.Author.Rules.{rules}
-use borrow.Author.Tests.{eq-eqb, ne_eqb}
+use mathlib.Core.Path.{◌≡◌}
+use lib.ListN.{length, drop}
 use Rattle.meaning.specs.Text.{scan, utf8, no_zero}
-use Rattle.text.proofs.Classes.{classes, rule, said}
-use Rattle.text.proofs.Scans.{scan-on, scan-stop, zero-on, scan-end, zero-end, not-utf8, has-zero, fine}
 use Rattle.text.proofs.walk.Given as goal
 
 abbrev pub invariant-loop-i : goal.invariant-loop-i

@@ -1,6 +1,5 @@
 -- The high hex digit of the table's entry.
 use native.Mathlib.Omega.{arith}
-use borrow.Author.Rules.{rules}
 use Rattle.types.proofs.Rule.{size_small}
 use Rattle.types.proofs.align.Goals as goal
 

@@ -1,6 +1,5 @@
 -- What is read off the table, or 0 outside it, is what the table's rule says of the code.
 use native.Mathlib.Omega.{arith}
-use borrow.Author.Rules.{rules}
 use borrow.Author.Tests.{le-ltb, lt-ltb}
 use Rattle.types.proofs.Rule.{entries, table_at, rule}
 use Rattle.types.proofs.entry.Goals as goal

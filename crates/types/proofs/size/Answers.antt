@@ -1,6 +1,5 @@
 -- The low hex digit of the table's entry.
 use native.Mathlib.Omega.{arith}
-use borrow.Author.Rules.{rules}
 use Rattle.types.proofs.Rule.{size_small}
 use Rattle.types.proofs.size.Goals as goal
 

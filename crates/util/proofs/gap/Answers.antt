@@ -2,7 +2,6 @@
 use native.Mathlib.Omega.{arith}
 use Rattle.meaning.specs.Number.{gap}
 use Rattle.util.proofs.Pads.{is_one}
-use borrow.Author.Rules.{rules}
 use Rattle.util.proofs.gap.Goals as goal
 
 pub returns-then-align-eq8 : goal.returns-then-align-eq8

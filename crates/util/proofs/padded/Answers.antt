@@ -1,7 +1,6 @@
 -- The tests that led to each return say which case of `padding` holds.
 use mathlib.Core.Path.{sym, ◌∙◌}
 use Rattle.util.proofs.Pads.{none, too_short, all-zero, holds-data}
-use borrow.Author.Rules.{rules}
 use Rattle.util.proofs.padded.Goals as goal
 
 pub returns-then-count-eq0 : goal.returns-then-count-eq0

@@ -1,5 +1,4 @@
 -- Each case of the answer has its case in the definition; the place is not before the offset, by what the caller shows.
-use borrow.Author.Rules.{rules}
 use Rattle.util.proofs.taken_from.Goals as goal
 
 pub overflow_sub-result : goal.overflow_sub-result

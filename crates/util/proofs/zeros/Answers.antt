@@ -1,10 +1,6 @@
 -- The loop's invariant: what is left to test decides.
-use Prim.Native.Nat.{◌≤◌, ◌+◌, ◌-◌}
-use mathlib.Core.Path.{◌≡◌}
 use native.Mathlib.Nat.{add-zero, sub-zero}
 use native.Mathlib.Omega.{arith}
-use lib.ListN.{take, drop}
-use Rattle.meaning.specs.Number.{zeros}
 use Rattle.util.proofs.Pads.{not-all, goes_on, all-passed}
 use Rattle.util.proofs.zeros.Goals as goal
 

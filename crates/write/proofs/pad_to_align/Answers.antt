@@ -3,7 +3,6 @@ use mathlib.Core.Path.{refl, sym, ◌∙◌}
 use lib.ListN.{length-replicate}
 use Rattle.write.proofs.Paddings.{aligned, not_aligned}
 use Rattle.write.proofs.store.Writes.{outside, is-faulty, is-bytes, no_room, stored}
-use borrow.Author.Rules.{rules}
 use Rattle.write.proofs.pad_to_align.Goals as goal
 
 pub returns-then-buf-at : goal.returns-then-buf-at

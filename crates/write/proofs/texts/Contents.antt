@@ -1,7 +1,7 @@
 -- What is to be written of a text: the tests that the code made say which content it is, and the stores that it made are those bytes.
 use Prim.Native.Nat.{ℕ, ◌+◌, ◌^◌, ◌≤◌, ◌<◌}
 use native.Mathlib.Omega.{arith}
-use mathlib.Core.List.{List, []}
+use mathlib.Core.List.{List}
 use mathlib.Core.Path.{◌≡◌, refl, ap, ◌∙◌}
 use lib.ListN.{length, set, length-append}
 use lib.Seq.{sets}

@@ -3,7 +3,6 @@ use mathlib.Core.Path.{refl, sym}
 use Rattle.meaning.specs.Writers.{integer_bytes}
 use Rattle.meaning.proofs.NumberLaws.{length-store}
 use Rattle.write.proofs.store.Writes.{outside, is-bytes, no_room, stored}
-use borrow.Author.Rules.{rules}
 use Rattle.write.proofs.write_integer.Goals as goal
 
 pub returns-then-buf-at : goal.returns-then-buf-at
@@ -23,6 +22,6 @@ returns c =
     let within = room.if-buf-at.false in
     let a = c.args in
     let content = integer_bytes a.order a.width a.x in
-    let met = is-bytes content a.buf-1.now a.at within _ refl _ _
+    let met = is-bytes content a.buf.now a.at within _ refl _ _
     (stored _ _ within _ _ (sym (length-store _ _ _)) room.if-buf-at-2.false _ refl _ c.store.ensures) in
     record { value = met.0; buf_after = met.1 }

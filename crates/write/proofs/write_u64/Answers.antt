@@ -1,13 +1,15 @@
 -- The table says how wide the number is.
 use Rattle.meaning.specs.Types.{u64}
 use Rattle.types.proofs.CodeLaws.{size_is, size-aligns}
-use borrow.Author.Rules.{rules}
 use Rattle.write.proofs.write_u64.Goals as goal
 
 pub returns : goal.returns
 returns c =
-    let it = rw (size_is u64 _ c.size.ensures) at c.write_integer.ensures in
-    record { value = it.0; buf_after = it.1 }
+    let width = size_is u64 _ c.size.ensures in
+    record {
+      value = rw width at c.write_integer.ensures.value;
+      buf_after = rw width at c.write_integer.ensures.buf_after;
+    }
 
 pub write_integer-requires : goal.write_integer-requires
 write_integer-requires c = size-aligns u64 _ c.size.ensures

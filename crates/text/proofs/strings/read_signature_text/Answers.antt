@@ -5,7 +5,6 @@ use lib.ListN.{get_or}
 use Rattle.meaning.specs.ReadValue.{read_sig}
 use Rattle.util.proofs.integers.Loads.{single}
 use Rattle.text.proofs.strings.Strings.{no_field}
-use borrow.Author.Rules.{rules}
 use Rattle.text.proofs.strings.read_signature_text.Goals as goal
 
 pub returns-then-end-off : goal.returns-then-end-off

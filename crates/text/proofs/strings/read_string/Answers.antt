@@ -1,7 +1,6 @@
 -- It is `sized` with a length of four bytes, and no zeros allowed.
 use Rattle.meaning.specs.ReadValue.{read_text}
 use Rattle.text.proofs.strings.Strings.{no_field}
-use borrow.Author.Rules.{rules}
 use Rattle.text.proofs.strings.read_string.Goals as goal
 
 pub returns-then-end-off-lt4 : goal.returns-then-end-off-lt4

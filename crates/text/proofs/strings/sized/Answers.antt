@@ -4,7 +4,6 @@ use Rattle.text.specs.declared.Text.TheVariants.{Fine, NotUtf8, HasZero}
 use Rattle.text.specs.Verdict.{text_number}
 use Rattle.text.proofs.Scans.{text_says}
 use Rattle.text.proofs.strings.Strings.{no_room, no-utf8, null-byte, well, lax-fine, lax-any, lax-not}
-use borrow.Author.Rules.{rules}
 use Rattle.text.proofs.strings.sized.Goals as goal
 
 pub returns-then-end-first : goal.returns-then-end-first

@@ -1,7 +1,6 @@
 -- The test is that of the definition.
 use mathlib.Core.Path.{refl}
 use borrow.Author.Tests.{ne_eqb}
-use borrow.Author.Rules.{rules}
 use Rattle.text.proofs.strings.terminated.Goals as goal
 
 pub returns-then-buf-stop-eq0 : goal.returns-then-buf-stop-eq0

@@ -5,7 +5,6 @@ use Rattle.meaning.specs.declared.Checked.TheVariants.{Refused}
 use Rattle.meaning.specs.declared.Order.TheVariants.{Little}
 use Rattle.meaning.proofs.ValueLocal.{read_sig-local}
 use Rattle.util.proofs.Windows.{entry_past, entry-is, entry-outside}
-use borrow.Author.Rules.{rules}
 use Rattle.text.proofs.strings.unmarshal_signature_text.Goals as goal
 
 pub returns-then-buf-off : goal.returns-then-buf-off

@@ -4,7 +4,6 @@ use Rattle.meaning.specs.ReadValue.{read_text}
 use Rattle.meaning.specs.declared.Checked.TheVariants.{Refused}
 use Rattle.meaning.proofs.ValueLocal.{read_text-local}
 use Rattle.util.proofs.Windows.{entry_past, entry-is, entry-outside}
-use borrow.Author.Rules.{rules}
 use Rattle.text.proofs.strings.unmarshal_str.Goals as goal
 
 pub taken_from-requires : goal.taken_from-requires

@@ -2,7 +2,6 @@
 use native.Mathlib.Omega.{arith}
 use Rattle.meaning.specs.declared.Order.TheVariants.{Big}
 use Rattle.util.proofs.integers.Loads.{halves}
-use borrow.Author.Rules.{rules}
 use Rattle.util.proofs.integers.big32.Goals as goal
 
 pub returns : goal.returns

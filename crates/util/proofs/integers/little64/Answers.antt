@@ -2,7 +2,6 @@
 use native.Mathlib.Omega.{arith}
 use Rattle.meaning.specs.declared.Order.TheVariants.{Little}
 use Rattle.util.proofs.integers.Loads.{halves}
-use borrow.Author.Rules.{rules}
 use Rattle.util.proofs.integers.little64.Goals as goal
 
 pub returns : goal.returns

@@ -2,7 +2,6 @@
 use native.Mathlib.Omega.{arith}
 use Rattle.util.proofs.Pads.{is_one}
 use Rattle.util.proofs.integers.Loads.{single}
-use borrow.Author.Rules.{rules}
 use Rattle.util.proofs.integers.load.Goals as goal
 
 pub bounds-buf-at : goal.bounds-buf-at

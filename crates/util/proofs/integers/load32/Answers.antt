@@ -1,5 +1,4 @@
 -- Each order has its own function.
-use borrow.Author.Rules.{rules}
 use Rattle.util.proofs.integers.load32.Goals as goal
 
 pub returns-in-Little : goal.returns-in-Little

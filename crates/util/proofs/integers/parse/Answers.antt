@@ -1,6 +1,5 @@
 -- The tests are those of `read_integer`, in its order, at every width.
 use Rattle.util.proofs.integers.Integers.{outside, too_few, is_read}
-use borrow.Author.Rules.{rules}
 use Rattle.util.proofs.integers.parse.Goals as goal
 
 pub returns-then-buf-at : goal.returns-then-buf-at

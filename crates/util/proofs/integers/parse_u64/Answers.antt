@@ -1,5 +1,4 @@
 -- The integer of this width.
-use borrow.Author.Rules.{rules}
 use Rattle.util.proofs.integers.parse_u64.Goals as goal
 
 pub returns : goal.returns

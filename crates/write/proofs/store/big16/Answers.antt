@@ -3,7 +3,6 @@ use native.Mathlib.Omega.{arith}
 use lib.ListN.{length-set}
 use Rattle.meaning.specs.declared.Order.TheVariants.{Big}
 use Rattle.write.proofs.store.Stores.{two_bytes}
-use borrow.Author.Rules.{rules}
 use Rattle.write.proofs.store.big16.Goals as goal
 
 pub returns : goal.returns

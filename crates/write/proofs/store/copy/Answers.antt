@@ -1,10 +1,9 @@
 -- The loop's invariant: what is left to store leads to what all of it leads to.
-use Prim.Native.Nat.{◌≤◌, ◌+◌, ◌-◌}
+use Prim.Native.Nat.{◌+◌}
 use native.Mathlib.Omega.{arith}
 use mathlib.Core.Path.{◌≡◌, refl}
 use mathlib.Core.List.{[]}
-use lib.ListN.{length, drop, length-set, drop_of_length-le}
-use lib.Seq.{sets}
+use lib.ListN.{drop, length-set, drop_of_length-le}
 use Rattle.write.proofs.store.Stores.{turn}
 use Rattle.write.proofs.store.copy.Goals as goal
 

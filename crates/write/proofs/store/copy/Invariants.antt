@@ -1,11 +1,8 @@
 -- The loop's invariant: what is left to store leads to what all of it leads to.
 use Prim.Native.Nat.{◌≤◌, ◌+◌, ◌-◌}
-use native.Mathlib.Omega.{arith}
-use mathlib.Core.Path.{◌≡◌, refl}
-use mathlib.Core.List.{[]}
-use lib.ListN.{length, drop, length-set, drop_of_length-le}
+use mathlib.Core.Path.{◌≡◌}
+use lib.ListN.{length, drop}
 use lib.Seq.{sets}
-use Rattle.write.proofs.store.Stores.{turn}
 use Rattle.write.proofs.store.copy.Given as goal
 
 abbrev pub invariant-loop-i : goal.invariant-loop-i

@@ -1,7 +1,6 @@
 -- Two halves of 16 bits make 32.
 use Rattle.meaning.specs.declared.Order.TheVariants.{Little}
 use Rattle.write.proofs.store.Stores.{halves}
-use borrow.Author.Rules.{rules}
 use Rattle.write.proofs.store.little32.Goals as goal
 
 pub returns : goal.returns

@@ -1,10 +1,9 @@
 -- The loop's invariant: what is left to store leads to what all of it leads to.
-use Prim.Native.Nat.{ℕ, ◌≤◌, ◌+◌, ◌-◌}
+use Prim.Native.Nat.{ℕ, ◌+◌}
 use native.Mathlib.Omega.{arith}
 use mathlib.Core.Path.{◌≡◌, refl, sym}
 use mathlib.Core.List.{[]}
 use lib.ListN.{length, drop, replicate, length-set, length-replicate, get_or-replicate, drop_of_length-le}
-use lib.Seq.{sets}
 use Rattle.write.proofs.store.Stores.{turn}
 use Rattle.write.proofs.store.put_zeros.Goals as goal
 

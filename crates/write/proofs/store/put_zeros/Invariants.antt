@@ -1,11 +1,8 @@
 -- The loop's invariant: what is left to store leads to what all of it leads to.
-use Prim.Native.Nat.{ℕ, ◌≤◌, ◌+◌, ◌-◌}
-use native.Mathlib.Omega.{arith}
-use mathlib.Core.Path.{◌≡◌, refl, sym}
-use mathlib.Core.List.{[]}
-use lib.ListN.{length, drop, replicate, length-set, length-replicate, get_or-replicate, drop_of_length-le}
+use Prim.Native.Nat.{◌≤◌, ◌+◌, ◌-◌}
+use mathlib.Core.Path.{◌≡◌}
+use lib.ListN.{length, drop, replicate}
 use lib.Seq.{sets}
-use Rattle.write.proofs.store.Stores.{turn}
 use Rattle.write.proofs.store.put_zeros.Given as goal
 
 abbrev pub invariant-loop-i : goal.invariant-loop-i

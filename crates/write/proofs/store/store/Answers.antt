@@ -2,7 +2,6 @@
 use native.Mathlib.Omega.{arith}
 use Rattle.util.proofs.Pads.{is_one}
 use Rattle.write.proofs.store.Stores.{single-byte}
-use borrow.Author.Rules.{rules}
 use Rattle.write.proofs.store.store.Goals as goal
 
 pub bounds-buf-at : goal.bounds-buf-at

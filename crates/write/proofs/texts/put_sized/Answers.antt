@@ -3,7 +3,6 @@ use native.Mathlib.Omega.{arith}
 use lib.ListN.{length-set}
 use Rattle.write.proofs.texts.Contents.{length-sized, sized-stores}
 use Rattle.write.proofs.store.Writes.{no_room, stored}
-use borrow.Author.Rules.{rules}
 use Rattle.write.proofs.texts.put_sized.Goals as goal
 
 pub returns-then-buf-at : goal.returns-then-buf-at

@@ -8,7 +8,6 @@ use Rattle.meaning.specs.Faults.{refusal, moved}
 use Rattle.meaning.specs.Writers.{faulty, signature_bytes}
 use Rattle.write.proofs.texts.Contents.{signature-small, is-signature, not-signature}
 use Rattle.write.proofs.store.Writes.{outside, is-faulty, is-bytes}
-use borrow.Author.Rules.{rules}
 use Rattle.write.proofs.texts.write_signature.Goals as goal
 
 pub returns-then-buf-at : goal.returns-then-buf-at
@@ -26,7 +25,7 @@ returns-in-Types c =
     let s = a.val.now in
     let inside = c.if-buf-at.false in
     let put = c.put_sized.ensures in
-    let e = sym c.in-Types.is ∙ c.parse_description.ensures in record { value = λ o. (is-bytes (signature_bytes o s) a.buf-1.now a.place.0 inside _ (is-signature o s _ e) _ _ (put.fields, put.text)).0; buf_after = λ o. (is-bytes (signature_bytes o s) a.buf-1.now a.place.0 inside _ (is-signature o s _ e) _ _ (put.fields, put.text)).1 }
+    let e = sym c.in-Types.is ∙ c.parse_description.ensures in record { value = λ o. (is-bytes (signature_bytes o s) a.buf.now a.place.0 inside _ (is-signature o s _ e) _ _ (put.value, put.buf_after)).0; buf_after = λ o. (is-bytes (signature_bytes o s) a.buf.now a.place.0 inside _ (is-signature o s _ e) _ _ (put.value, put.buf_after)).1 }
 
 pub returns-in-Refused : goal.returns-in-Refused
 returns-in-Refused c =

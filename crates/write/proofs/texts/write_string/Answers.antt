@@ -3,7 +3,6 @@ use mathlib.Core.Path.{ap, sym, ◌∙◌}
 use Rattle.text.specs.Verdict.{text_number}
 use Rattle.write.proofs.texts.Contents.{too_long, fine, not-utf8, has-zero}
 use Rattle.write.proofs.store.Writes.{outside, is-faulty, is-bytes}
-use borrow.Author.Rules.{rules}
 use Rattle.write.proofs.texts.write_string.Goals as goal
 
 pub returns-then-buf-at : goal.returns-then-buf-at
@@ -22,7 +21,7 @@ returns-in-Fine c =
     let it = let t = c in
     let k = t in
     let e = ap text_number (sym t.in-Fine.is) ∙ k.check_text.ensures in
-    is-bytes _ _ _ k.if-buf-at.false _ (fine _ _ k.if-val-gt4294967295.false e) _ _ c.put_sized.ensures in
+    is-bytes _ _ _ k.if-buf-at.false _ (fine _ _ k.if-val-gt4294967295.false e) _ _ (c.put_sized.ensures.value, c.put_sized.ensures.buf_after) in
     record { value = it.0; buf_after = it.1 }
 
 pub returns-in-NotUtf8 : goal.returns-in-NotUtf8
