@@ -3,19 +3,20 @@ use Prim.Native.Nat.{ℕ, zero, suc, ◌+◌, ◌-◌, ◌*◌, ◌/◌, ◌%◌
 use native.Mathlib.Omega.{arith}
 use native.Mathlib.Numerals.{add-one}
 use native.Mathlib.Nat.{zero-add}
-use mathlib.Core.Bool.{Bool, true, false, ◌&&◌, cond}
+use mathlib.Core.Bool.{Bool, true, false, ◌&&◌, not, cond}
 use mathlib.Core.Path.{◌≡◌, refl, ap, sym, ◌∙◌}
 use mathlib.Core.List.{List, [], ◌∷◌}
 use lib.Dec.{leb, ltb, eqb}
 use lib.ListN.{length, take, drop, get_or, set, length-drop, drop_of_length-le}
 use lib.Seq.{sets, drop-cons, drop-drop, drop-set-lt, get_or-drop, take_all, take-length, length-sets, length-take-le}
-use borrow.Author.Tests.{ltb-true, leb-true, le-ltb, lt-ltb, le-leb, lt-leb, eq-eqb, ne_eqb}
+use borrow.Author.Tests.{ltb-true, leb-true, le-ltb, lt-ltb, le-leb, eq-eqb, ne_eqb}
 use Rattle.question_lines.specs.Digits.{digit_of, all_digits, value_from, pairs}
-use Rattle.io.specs.Counts.{IsPrefixLen}
 use Rattle.question_lines.specs.declared.Taken.{Taken}
 use Rattle.question_lines.specs.declared.Taken.TheVariants.{Bytes}
-use Rattle.bytes.specs.Bytes.{index_of, slice}
-use Rattle.question_lines.specs.Words.{occurrences, Took, unless, taken_of}
+use Rattle.std.specs.List.{between}
+use Rattle.std.proofs.lemmas.Slice.{between_from_start}
+use Rattle.std.proofs.lemmas.List.Edits.{between_none}
+use Rattle.question_lines.specs.Words.{index_of, occurrences, Took, unless, taken_of}
 use Rattle.question_lines.specs.declared.Number.{Number}
 use Rattle.question_lines.specs.declared.Number.TheVariants.{Is, Bad}
 
@@ -72,10 +73,22 @@ too_large n r s h p = rw (le-ltb (value_from 0 s) (2 ^ 64) (omega (arith, grows 
 pub read_whole : (n : ℕ) (s : List ℕ) → n < 2 ^ 64 → n ≡ value_from 0 s → Is n ≡ Fitting s
 read_whole n s h p = rw (← p, lt-ltb n (2 ^ 64) h)
 
+-- one byte further on in a search
+pub find-step : (b i to : ℕ) (s : List ℕ) → i < to → to ≤ length s
+    → index_of b (between i to s) ≡ cond (not (eqb (get_or s i 0) b)) (1 + index_of b (between (i + 1) to s)) 0
+find-step b i to s h w =
+    let n : to - i ≡ suc (to - (i + 1)) = omega arith in
+    rw (n, next s i (omega arith))
+
+-- no byte is left to search
+pub find-end : (b i to e : ℕ) (s : List ℕ) → i ≡ to → i + index_of b (between i to s) ≡ e → to ≡ e
+find-end b i to e s h p =
+    let q : to + index_of b (between to to s) ≡ e = rw h at p in
+    omega (arith, rw between_none at q)
+
 -- a search of all of a slice
-pub found : (b : ℕ) (s : List ℕ) (r : ℕ) → r ≡ 0 + index_of b (slice 0 (length s) s) → r ≡ index_of b s
-unfolding slice
-found b s r p = p ∙ rw (zero-add, take-length)
+pub found : (b : ℕ) (s : List ℕ) (r : ℕ) → r ≡ 0 + index_of b (between 0 (length s) s) → r ≡ index_of b s
+found b s r p = p ∙ rw (zero-add, between_from_start, take-length)
 
 pub from_on : (s : List ℕ) (n : ℕ) → take (length s - n) (drop n s) ≡ drop n s
 from_on s n = take_all (length s - n) (drop n s) (simp length-drop (omega arith))
@@ -108,7 +121,7 @@ module _ (n : ℕ) (xs out : List ℕ) where
   within false dash true true true false k h p = let z : ◌≡◌ {A = ℕ} 0 1 = cc in absurd (omega arith)
   within false dash true true true true k h p = let z : k ≡ n = cc in omega (arith, h refl, length-sets out 0 xs)
 
-pub taken-counts : (s out e : List ℕ) (k : ℕ) (r : Taken) → r ≡ (taken_of s out).answer → e ≡ (taken_of s out).after → r ≡ Bytes k → IsPrefixLen k e
+pub taken-counts : (s out e : List ℕ) (k : ℕ) (r : Taken) → r ≡ (taken_of s out).answer → e ≡ (taken_of s out).after → r ≡ Bytes k → (k ≤ length e) × (k ≡ length (take k e))
 unfolding taken_of taken
 taken-counts s out e k r p q g =
     let h : k ≤ length (taken_of s out).after =

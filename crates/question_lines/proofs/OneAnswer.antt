@@ -3,6 +3,7 @@ use Prim.Native.Nat.{ℕ}
 use mathlib.Core.List.{List}
 use mathlib.Core.Path.{◌≡◌}
 use Rattle.meaning.proofs.OneAnswer.{OneAnswer, OneBuffer, both}
+use Rattle.question_lines.proofs.find.Reads as find
 use Rattle.question_lines.proofs.head.Reads as head
 use Rattle.question_lines.proofs.tail.Reads as tail
 use Rattle.question_lines.proofs.first.Reads as first
@@ -17,6 +18,9 @@ OneText {K} {A} {R} {S} L bytes = (κs : K) (a : A κs) (x y : R κs) (s t : S �
 
 pub one-part : OneText head.Learnt (λ κs r. r.now) × OneText tail.Learnt (λ κs r. r.now) × OneText first.Learnt (λ κs r. r.now)
 one-part = (λ κs a x y s t h k. both h k, λ κs a x y s t h k. both h k, λ κs a x y s t h k. both h k)
+
+pub one-find : OneAnswer find.Learnt
+one-find κs a x y s t h k = both h.0 k.0
 
 pub one_number : OneAnswer count.Learnt × OneAnswer number_of_lem.Learnt
 one_number = (λ κs a x y s t h k. both h k, λ κs a x y s t h k. both h k)

@@ -1,12 +1,16 @@
 -- The words of a line, and what a word gives as a number or as bytes.
-use Rattle.std.specs.Prelude.{ℕ, zero, ◌+◌, ◌-◌, ◌/◌, ◌%◌, ◌^◌, Bool, true, false, ◌&&◌, cond, List, [], ◌∷◌, length, take, drop, get_or, leb, ltb, eqb}
+use Rattle.std.specs.Prelude.{ℕ, zero, ◌+◌, ◌-◌, ◌/◌, ◌%◌, ◌^◌, Bool, true, false, cond, List, [], ◌∷◌, length, take, drop, get_or, leb, ltb, eqb}
 use Rattle.std.proofs.lemmas.List.Edits.{sets}
-use Rattle.bytes.specs.Bytes.{index_of}
+use Rattle.std.specs.List.{position_or_len}
 use Rattle.question_lines.specs.declared.Number.{Number}
 use Rattle.question_lines.specs.declared.Number.TheVariants.{Is, Bad as NoNumber}
 use Rattle.question_lines.specs.declared.Taken.{Taken}
 use Rattle.question_lines.specs.declared.Taken.TheVariants.{Bytes, Bad as NoBytes}
 use Rattle.question_lines.specs.Digits.{all_digits, value_from, pairs}
+
+-- where the byte first stands, or the length
+abbrev pub index_of : ℕ → List ℕ → ℕ
+index_of b s = position_or_len (λ x. eqb x b) s
 
 -- where the first space stands, or the length
 abbrev pub word_end : List ℕ → ℕ

@@ -2,9 +2,10 @@
 #![tactic(auto)]
 
 ghost use Rattle.std.specs.Prelude.{◌≡◌, true, cond, ◌+◌, ◌*◌, ◌^◌, ◌≤◌, ◌<◌, ltb, length, drop, take};
+ghost use Rattle.std.specs.List.{between};
 ghost use Rattle.std.proofs.lemmas.List.Edits.{sets};
 ghost use Rattle.question_lines.specs.Digits.{digit_of, all_digits, value_from, pairs};
-ghost use Rattle.question_lines.specs.Words.{word_end, occurrences, number_of, taken_of, moved_down};
+ghost use Rattle.question_lines.specs.Words.{index_of, word_end, occurrences, number_of, taken_of, moved_down};
 
 #[derive(Clone, Copy)]
 pub enum Number {
@@ -19,11 +20,29 @@ pub enum Taken {
     Bad,
 }
 
+// The first place from `from` on at which `b` stands, if that is before `to`; else `to`.
+pub fn find(s: &[u8], from: usize, to: usize, b: u8) -> usize
+    requires ordered { from ≤ to }
+    requires within { to ≤ length s.now }
+    ensures place { result ≡ from + index_of b (between from to s.now) }
+    ensures low { from ≤ result }
+    ensures high { result ≤ to }
+{
+    let mut i = from;
+    while i < to {
+        if s[i] == b {
+            return i;
+        }
+        i += 1;
+    }
+    to
+}
+
 // The first word: up to the first space, or all.
 pub fn head(s: &[u8]) -> &[u8]
     ensures { result.now ≡ take (word_end s.now) s.now }
 {
-    let end = bytes::scan::find(s, 0, s.len(), b' ');
+    let end = find(s, 0, s.len(), b' ');
     &s[..end]
 }
 
@@ -31,7 +50,7 @@ pub fn head(s: &[u8]) -> &[u8]
 pub fn tail(s: &[u8]) -> &[u8]
     ensures { result.now ≡ drop (word_end s.now + 1) s.now }
 {
-    let gap = bytes::scan::find(s, 0, s.len(), b' ');
+    let gap = find(s, 0, s.len(), b' ');
     if gap < s.len() {
         let next = gap + 1;
         &s[next..]

@@ -14,9 +14,5 @@ made e1 e2 e3 e4 e5 e6 e7 e8 e9 = rw (e1, e2, e3, e4, e5, e6, e7, e8, e9) refl
 
 pub returns : goal.returns
 returns c =
-    let c8 = c in
-    let c6 = c8 in
-    let c4 = c6 in
-    let c2 = c4 in
-    made c2.of_entry.ensures c2.of_entry-2.ensures c4.of_entry-3.ensures c4.of_entry-4.ensures
-    c6.of_entry-5.ensures c6.of_entry-6.ensures c8.of_entry-7.ensures c8.of_entry-8.ensures c.of_entry-9.ensures
+    made c.of_entry.ensures c.of_entry-2.ensures c.of_entry-3.ensures c.of_entry-4.ensures
+    c.of_entry-5.ensures c.of_entry-6.ensures c.of_entry-7.ensures c.of_entry-8.ensures c.of_entry-9.ensures

@@ -15,26 +15,22 @@ gap-count-requires c = rw (sym c.is_alignment.ensures ∙ c.if-is_alignment.true
 
 pub returns-then-buf-at-2 : goal.returns-then-buf-at-2
 returns-then-buf-at-2 c =
-    let it = let g = c in
-    let within = g.if-buf-at.false in
-    let is = aligned _ _ _ (sym g.is_alignment.ensures ∙ g.if-is_alignment.true) g.gap-count.ensures in
-    is-bytes _ _ _ within _ is _ _ (no_room _ _ within _ _ (sym (length-replicate _ 0)) c.if-buf-at-2.true _ c.refuse-then-buf-at-2.ensures) in
+    let within = c.if-buf-at.false in
+    let is = aligned _ _ _ (sym c.is_alignment.ensures ∙ c.if-is_alignment.true) c.gap-count.ensures in
+    let it = is-bytes _ _ _ within _ is _ _ (no_room _ _ within _ _ (sym (length-replicate _ 0)) c.if-buf-at-2.true _ c.refuse-then-buf-at-2.ensures) in
     record { value = it.0; buf_after = it.1 }
 
 pub returns-else-buf-at-2 : goal.returns-else-buf-at-2
 returns-else-buf-at-2 c =
-    let it = let room = c in
-    let g = room in
-    let within = g.if-buf-at.false in
-    let is = aligned _ _ _ (sym g.is_alignment.ensures ∙ g.if-is_alignment.true) g.gap-count.ensures in
+    let within = c.if-buf-at.false in
+    let is = aligned _ _ _ (sym c.is_alignment.ensures ∙ c.if-is_alignment.true) c.gap-count.ensures in
     let wrote = c.put_zeros.ensures in
-    is-bytes _ _ _ within _ is _ _ (stored _ _ within _ _ (sym (length-replicate _ 0)) room.if-buf-at-2.false _ refl _ wrote) in
+    let it = is-bytes _ _ _ within _ is _ _ (stored _ _ within _ _ (sym (length-replicate _ 0)) c.if-buf-at-2.false _ refl _ wrote) in
     record { value = it.0; buf_after = it.1 }
 
 pub returns-else-is_alignment : goal.returns-else-is_alignment
 returns-else-is_alignment c =
-    let it = let t = c in
-    let a = t.args in
-    let is = not_aligned a.align a.place.0 (sym t.is_alignment.ensures ∙ c.if-is_alignment.false) in
-    is-faulty _ _ _ t.if-buf-at.false _ is _ c.refuse-else-is_alignment.ensures in
+    let a = c.args in
+    let is = not_aligned a.align a.place.0 (sym c.is_alignment.ensures ∙ c.if-is_alignment.false) in
+    let it = is-faulty _ _ _ c.if-buf-at.false _ is _ c.refuse-else-is_alignment.ensures in
     record { value = it.0; buf_after = it.1 }

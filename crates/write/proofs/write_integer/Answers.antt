@@ -12,16 +12,15 @@ returns-then-buf-at c =
 
 pub returns-then-buf-at-2 : goal.returns-then-buf-at-2
 returns-then-buf-at-2 c =
-    let it = let within = c.if-buf-at.false in
-    is-bytes _ _ _ within _ refl _ _ (no_room _ _ within _ _ (sym (length-store _ _ _)) c.if-buf-at-2.true _ c.refuse-then-buf-at-2.ensures) in
+    let within = c.if-buf-at.false in
+    let it = is-bytes _ _ _ within _ refl _ _ (no_room _ _ within _ _ (sym (length-store _ _ _)) c.if-buf-at-2.true _ c.refuse-then-buf-at-2.ensures) in
     record { value = it.0; buf_after = it.1 }
 
 pub returns : goal.returns
 returns c =
-    let room = c in
-    let within = room.if-buf-at.false in
+    let within = c.if-buf-at.false in
     let a = c.args in
     let content = integer_bytes a.order a.width a.x in
     let met = is-bytes content a.buf.now a.at within _ refl _ _
-    (stored _ _ within _ _ (sym (length-store _ _ _)) room.if-buf-at-2.false _ refl _ c.store.ensures) in
+    (stored _ _ within _ _ (sym (length-store _ _ _)) c.if-buf-at-2.false _ refl _ c.store.ensures) in
     record { value = met.0; buf_after = met.1 }

@@ -15,9 +15,9 @@ shape_of-buf c = simp length-set (omega arith)
 
 pub returns : goal.returns
 returns c =
-    let it = let asked = c.requires in
+    let asked = c.requires in
     let if1 = c.if-buf-at in
     let store = c.store in
-    stored _ _ asked.within _ _ (length-sized _ _ _) (omega (arith, if1.false)) _ (omega arith) _
+    let it = stored _ _ asked.within _ _ (length-sized _ _ _) (omega (arith, if1.false)) _ (omega arith) _
     (sized-stores _ _ _ _ _ _ _ store.ensures c.copy.ensures) in
     record { value = it.0; buf_after = it.1 }

@@ -12,28 +12,24 @@ returns-then-buf-at c =
 
 pub returns-then-val-gt4294967295 : goal.returns-then-val-gt4294967295
 returns-then-val-gt4294967295 c =
-    let it = let a = c.args in
-    is-faulty _ _ _ c.if-buf-at.false _ (too_long a.order a.val.now c.if-val-gt4294967295.true) _ c.refuse-then-val-gt4294967295.ensures in
+    let a = c.args in
+    let it = is-faulty _ _ _ c.if-buf-at.false _ (too_long a.order a.val.now c.if-val-gt4294967295.true) _ c.refuse-then-val-gt4294967295.ensures in
     record { value = it.0; buf_after = it.1 }
 
 pub returns-in-Fine : goal.returns-in-Fine
 returns-in-Fine c =
-    let it = let t = c in
-    let k = t in
-    let e = ap text_number (sym t.in-Fine.is) ∙ k.check_text.ensures in
-    is-bytes _ _ _ k.if-buf-at.false _ (fine _ _ k.if-val-gt4294967295.false e) _ _ (c.put_sized.ensures.value, c.put_sized.ensures.buf_after) in
+    let e = ap text_number (sym c.in-Fine.is) ∙ c.check_text.ensures in
+    let it = is-bytes _ _ _ c.if-buf-at.false _ (fine _ _ c.if-val-gt4294967295.false e) _ _ (c.put_sized.ensures.value, c.put_sized.ensures.buf_after) in
     record { value = it.0; buf_after = it.1 }
 
 pub returns-in-NotUtf8 : goal.returns-in-NotUtf8
 returns-in-NotUtf8 c =
-    let it = let k = c in
-    let e = ap text_number (sym c.in-NotUtf8.is) ∙ k.check_text.ensures in
-    is-faulty _ _ _ k.if-buf-at.false _ (not-utf8 _ _ k.if-val-gt4294967295.false e) _ c.refuse-in-NotUtf8.ensures in
+    let e = ap text_number (sym c.in-NotUtf8.is) ∙ c.check_text.ensures in
+    let it = is-faulty _ _ _ c.if-buf-at.false _ (not-utf8 _ _ c.if-val-gt4294967295.false e) _ c.refuse-in-NotUtf8.ensures in
     record { value = it.0; buf_after = it.1 }
 
 pub returns-in-HasZero : goal.returns-in-HasZero
 returns-in-HasZero c =
-    let it = let k = c in
-    let e = ap text_number (sym c.in-HasZero.is) ∙ k.check_text.ensures in
-    is-faulty _ _ _ k.if-buf-at.false _ (has-zero _ _ k.if-val-gt4294967295.false e) _ c.refuse-in-HasZero.ensures in
+    let e = ap text_number (sym c.in-HasZero.is) ∙ c.check_text.ensures in
+    let it = is-faulty _ _ _ c.if-buf-at.false _ (has-zero _ _ c.if-val-gt4294967295.false e) _ c.refuse-in-HasZero.ensures in
     record { value = it.0; buf_after = it.1 }
