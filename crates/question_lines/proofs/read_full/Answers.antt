@@ -18,6 +18,12 @@ put_part a k n xs ys within fits =
     let after = post_of a k xs in
     ap (take ((a + n) - a)) (drop_at (take a xs) (ys ++ after) a (length-take-le a xs within)) ∙ ap (λ m. take m (ys ++ after)) same ∙ take-append-le n ys after fits
 
+pub loop-done-init : goal.loop-done-init
+loop-done-init g c = (omega arith, search rules)
+
+pub loop-done-smaller : goal.loop-done-smaller
+loop-done-smaller g c = omega arith
+
 pub loop-done-preserved : goal.loop-done-preserved
 loop-done-preserved g c =
     let from = c.loop-done.done in
