@@ -1,8 +1,8 @@
 -- Basic values by the ways through the code: b is all that is seen, and `end` is where it ends.
 use Prim.Native.Nat.{ℕ, ◌+◌, ◌≤◌, ◌<◌}
 use native.Mathlib.Omega.{arith}
-use mathlib.Core.Bool.{Bool, true, false}
-use mathlib.Core.List.{List, [], ◌∷◌}
+use mathlib.Core.Bool.{false}
+use mathlib.Core.List.{List}
 use mathlib.Core.Path.{◌≡◌, refl, ap, sym, ◌∙◌}
 use lib.ListN.{length, take, drop}
 use lib.Dec.{T}
@@ -16,11 +16,10 @@ use Rattle.meaning.specs.Faults.{refusal}
 use Rattle.meaning.specs.Number.{load}
 use Rattle.meaning.specs.Types.{Fix, byte, bool, i16, u16, i32, u32, i64, u64, dbl, fd, Base, fix, str, path, sig, size, align_base}
 use Rattle.meaning.specs.Signature.{code, code_fix}
-use Rattle.meaning.specs.Reader.{Res, got, fault, stop, R, ret, here, ◌>>=◌, ◌>>◌, check, bytes, reached_of}
+use Rattle.meaning.specs.Reader.{R, ret, ◌>>=◌, ◌>>◌, check, bytes, reached_of}
 use Rattle.meaning.specs.ReadValue.{valid, padding, read_fix, bare_r, base_r}
 use Rattle.meaning.proofs.Local.{bind-got, bind-fault, bytes-yes, bytes-no}
 use Rattle.meaning.proofs.Meets.{here-bind, check_bind}
-use Rattle.meaning.specs.Writers.{is_alignment}
 use Rattle.meaning.proofs.PlaceLaws.{same_code}
 use Rattle.meaning.proofs.Loop.{at-inv, refused-inv}
 use Rattle.types.specs.Codes.{align_code}

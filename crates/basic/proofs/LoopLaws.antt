@@ -1,16 +1,15 @@
 -- A turn of a loop over what an array holds, as the code takes it: the reader's answer is known by where it gets to.
-use Prim.Native.Nat.{ℕ, ◌+◌, ◌-◌, ◌≤◌, ◌<◌}
+use Prim.Native.Nat.{ℕ, ◌-◌, ◌≤◌, ◌<◌}
 use native.Mathlib.Omega.{arith}
 use mathlib.Core.List.{List}
-use mathlib.Core.Path.{◌≡◌, refl, ap, sym, ◌∙◌}
+use mathlib.Core.Path.{◌≡◌, sym, ◌∙◌}
 use lib.ListN.{length, take}
 use lib.Seq.{length-take-le}
-use Rattle.meaning.specs.declared.Order.{Order}
 use Rattle.meaning.specs.declared.Place.{Place}
 use Rattle.meaning.specs.declared.Refusal.{Refusal}
 use Rattle.meaning.specs.declared.Reached.{Reached}
 use Rattle.meaning.specs.declared.Reached.TheVariants.{At, Refused}
-use Rattle.meaning.specs.Reader.{Res, got, fault, R, many, reached_of}
+use Rattle.meaning.specs.Reader.{R, many, reached_of}
 use Rattle.meaning.proofs.Local.{Local}
 use Rattle.meaning.proofs.Grows.{Grows}
 use Rattle.meaning.proofs.Loop.{at-inv, refused-inv, Onward, onward-start, onward-step, onward-refused, onward-end}

@@ -1,5 +1,5 @@
 -- What the functions that read a header field answer, in terms of the readers of the meaning crate: the header keeps of a field what an entry holds.
-use Rattle.std.specs.Prelude.{ℕ, ◌+◌, ◌-◌, ◌≤◌, ◌<◌, List, ◌≡◌, length, take, drop}
+use Rattle.std.specs.Prelude.{ℕ, ◌+◌, ◌≤◌, ◌<◌, List, ◌≡◌, length, take, drop}
 use Rattle.meaning.specs.Types.{Base, Ty, base, Raw, Var}
 use Rattle.meaning.specs.Signature.{code, parse}
 use Rattle.meaning.specs.Places.{TypeAt}

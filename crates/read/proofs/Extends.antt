@@ -1,9 +1,9 @@
 -- A signed number carried on to 64 bits, as the code computes it; and a double that equals itself is no NaN.
-use Prim.Native.Nat.{ℕ, zero, suc, ◌+◌, ◌-◌, ◌^◌, ◌≤◌, ◌<◌}
+use Prim.Native.Nat.{ℕ, suc, ◌-◌, ◌^◌, ◌≤◌, ◌<◌}
 use native.Mathlib.Omega.{arith}
 use mathlib.Core.Bool.{Bool, true, false, not}
-use mathlib.Core.Path.{◌≡◌, refl, sym, ap, ◌∙◌}
-use lib.Dec.{T, leb, ltb}
+use mathlib.Core.Path.{◌≡◌, refl, ap, ◌∙◌}
+use lib.Dec.{T, leb}
 use lib.IntN.{ℤ, pos, negsuc, ◌-ℤ◌, nat_abs}
 use lib.Signed.{lt_z, non_neg}
 use lib.Ieee.{Float, nan, inf, fin, is_nan, eq, ne, binary64, to_bits}

@@ -2,13 +2,13 @@
 use Prim.Native.Nat.{ℕ, zero, suc, ◌+◌, ◌*◌, ◌-◌, ◌%◌, ◌^◌, ◌<◌}
 use native.Mathlib.Nat.{mod-eq_of_lt, add-mul-mod_self_left}
 use native.Mathlib.Omega.{arith}
-use mathlib.Core.Bool.{Bool, true, false, not}
+use mathlib.Core.Bool.{Bool, true, false}
 use mathlib.Core.List.{List}
 use mathlib.Core.Path.{◌≡◌, refl, sym, ap, ◌∙◌}
 use lib.ListN.{length}
 use lib.Dec.{T, leb, ltb, eqb, ltb→lt}
 use lib.IntN.{pos, negsuc}
-use lib.Ieee.{binary64, is_nan, nan_bits, of_bits, to_bits}
+use lib.Ieee.{binary64, is_nan, nan_bits, of_bits}
 use lib.Ieee.Bits.{nan_bits_is, to_bits-of_bits}
 use Rattle.meaning.specs.Text.{pick}
 use Rattle.meaning.specs.Types.{Fix, byte, bool, i16, u16, i32, u32, i64, u64, dbl, fd, fix, str, path, sig, size, base, arr, dict, struct, variant}
@@ -16,7 +16,7 @@ use Rattle.meaning.specs.Faults.{refusal}
 use Rattle.meaning.specs.Reader.{Res, got, fault}
 use Rattle.meaning.specs.Signature.{parse}
 use Rattle.meaning.specs.ReadValue.{valid, read, read_top, check_at, check_value, taken, base_r, Opt, the, not1, only_one}
-use Rattle.meaning.specs.FixedValue.{signed, fixed_value, fixed_from, read_fixed}
+use Rattle.meaning.specs.FixedValue.{signed, fixed_value, read_fixed}
 use Rattle.meaning.specs.declared.Order.{Order}
 use Rattle.meaning.specs.declared.Fault.TheVariants.{BadOffset, BadArgument}
 use Rattle.meaning.specs.declared.FixedValue.{FixedValue}

@@ -16,7 +16,7 @@ use Rattle.meaning.specs.declared.HeaderRead.TheVariants as header_read
 use Rattle.meaning.specs.Number.{load, gap}
 use Rattle.meaning.specs.Message.{Message}
 use Rattle.meaning.specs.Reader.{Res, got, fault}
-use Rattle.meaning.specs.ReadMessage.{order_of, fixed_in, size_in, table_in, message_size, read_message}
+use Rattle.meaning.specs.ReadMessage.{order_of, size_in, table_in, message_size, read_message}
 use Rattle.meaning.specs.Header.{header_of, header_from, read_header}
 use Rattle.meaning.proofs.MessageLocal.{read_message-local}
 use Rattle.util.proofs.Windows.{seen}

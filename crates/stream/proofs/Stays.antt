@@ -4,7 +4,7 @@ use Prim.Native.Nat.{ℕ, ◌≤◌, ◌<◌}
 use native.Mathlib.Omega.{arith}
 use mathlib.Core.Bool.{Bool, true, false}
 use mathlib.Core.List.{List, ◌++◌}
-use mathlib.Core.Path.{◌≡◌, refl, ap, sym, subst, ◌∙◌}
+use mathlib.Core.Path.{◌≡◌, refl, ap, sym, ◌∙◌}
 use mathlib.Core.Logic.{◌⊎◌, inl, inr}
 use lib.Dec.{ltb}
 use lib.ListN.{length, length-append}
@@ -17,7 +17,7 @@ use Rattle.meaning.specs.declared.HeaderRead.TheVariants as header_read
 use Rattle.meaning.specs.Faults.{is_short}
 use Rattle.meaning.specs.Message.{Message}
 use Rattle.meaning.specs.Reader.{Res, got, fault}
-use Rattle.meaning.specs.ReadMessage.{message_size, read_message}
+use Rattle.meaning.specs.ReadMessage.{read_message}
 use Rattle.meaning.specs.Header.{header_from, read_header}
 use Rattle.meaning.proofs.Local.{short, Cmp, is_le, is_gt, cmp}
 use Rattle.meaning.proofs.MessageLocal.{read_message-local}

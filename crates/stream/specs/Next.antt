@@ -1,6 +1,5 @@
 -- What stands next in a stream, by the bytes of it that are there.
-use Rattle.std.specs.Prelude.{ℕ, ◌≤◌, Bool, true, false, ◌&&◌, ◌||◌, cond, List, length, ltb, eqb}
-use Rattle.meaning.specs.declared.Fault.{Fault}
+use Rattle.std.specs.Prelude.{ℕ, ◌≤◌, Bool, true, false, cond, List, length, ltb}
 use Rattle.meaning.specs.declared.Refusal.{Refusal}
 use Rattle.meaning.specs.declared.HeaderRead.{HeaderRead}
 use Rattle.meaning.specs.declared.HeaderRead.TheVariants as header_read

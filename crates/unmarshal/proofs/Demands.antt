@@ -2,7 +2,7 @@
 use Prim.Native.Nat.{ℕ, ◌-◌}
 use native.Mathlib.Omega.{arith}
 use mathlib.Core.List.{List}
-use mathlib.Core.Path.{◌≡◌, refl, ap, sym, ◌∙◌}
+use mathlib.Core.Path.{◌≡◌, refl, ap, ◌∙◌}
 use Rattle.meaning.specs.declared.HeaderRead.{HeaderRead}
 use Rattle.meaning.specs.declared.HeaderRead.TheVariants.{Read, Refused}
 use Rattle.meaning.specs.Reader.{Res, got, fault}

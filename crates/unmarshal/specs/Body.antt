@@ -1,5 +1,5 @@
 -- What the functions that read a message after its field table ask for and answer, in terms of the readers of the meaning crate.
-use Rattle.std.specs.Prelude.{ℕ, ◌+◌, ◌<◌, List, ◌≡◌, length, take, drop, T}
+use Rattle.std.specs.Prelude.{ℕ, List, ◌≡◌, length, take, drop, T}
 use Rattle.meaning.specs.Types.{Ty}
 use Rattle.meaning.specs.Signature.{parse, types, spell_all}
 use Rattle.meaning.specs.Places.{Spelled, shape_all}

@@ -1,23 +1,19 @@
 -- The check of a value by the ways through the code: what the count of the signature's types says, and the offset.
-use Prim.Native.Nat.{ℕ, ◌+◌, ◌-◌, ◌≤◌, ◌<◌}
+use Prim.Native.Nat.{ℕ, ◌-◌, ◌≤◌, ◌<◌}
 use native.Mathlib.Omega.{arith}
-use mathlib.Core.Bool.{Bool, true, false}
 use mathlib.Core.List.{List, [], ◌∷◌}
-use mathlib.Core.Path.{◌≡◌, refl, ap, sym, subst, ◌∙◌}
+use mathlib.Core.Path.{◌≡◌, refl, ap, sym, ◌∙◌}
 use lib.ListN.{length, take}
 use lib.Seq.{take-length}
 use Rattle.meaning.specs.declared.Order.{Order}
 use Rattle.meaning.specs.declared.Refusal.{Refusal}
 use Rattle.meaning.specs.declared.Fault.TheVariants.{BadOffset, BadArgument}
-use Rattle.meaning.specs.declared.Counted.{Counted}
 use Rattle.meaning.specs.declared.Counted.TheVariants as counted
-use Rattle.meaning.specs.declared.Checked.{Checked}
 use Rattle.meaning.specs.declared.Checked.TheVariants.{Refused}
 use Rattle.meaning.specs.Faults.{refusal}
 use Rattle.meaning.specs.Types.{Ty}
 use Rattle.meaning.specs.Signature.{parse, Parsed, types, refused}
 use Rattle.meaning.specs.Places.{TypeAt, Typed}
-use Rattle.meaning.specs.Reader.{Res, got, fault}
 use Rattle.meaning.specs.ReadValue.{read, read_var, read_top, taken, checked_of, check_at, the, not1, only_one, check_value, counted_of}
 use Rattle.meaning.proofs.Local.{leb-false}
 use Rattle.meaning.proofs.PlaceLaws.{whole-type}

@@ -1,16 +1,12 @@
 -- The code says which basic type it is; each has its reader.
-use mathlib.Core.Path.{◌≡◌, sym, ◌∙◌, ap}
-use native.Mathlib.Omega.{arith}
-use lib.Seq.{length-take-le}
-use mathlib.Core.Path.{refl, subst}
-use Rattle.meaning.specs.Types.{Base, fix, bool, str, path, sig}
+use mathlib.Core.Path.{sym, ◌∙◌, ap}
+use Rattle.meaning.specs.Types.{fix, bool, str, path, sig}
 use Rattle.meaning.specs.Signature.{code}
 use Rattle.meaning.specs.ReadValue.{bare_r}
 use Rattle.meaning.proofs.PlaceLaws.{same_code}
 use Rattle.types.specs.Codes.{size_code}
 use Rattle.types.proofs.CodeLaws.{size-fix}
 use Rattle.basic.proofs.BaseLaws.{is_number, as-base}
-use borrow.Author.Rules.{rules}
 use Rattle.basic.proofs.bare.Goals as goal
 
 pub returns-in-115 : goal.returns-in-115

@@ -3,7 +3,6 @@ use mathlib.Core.Logic.{⊎_elim}
 use Rattle.meaning.specs.Types.{byte, i16, u16, i32, u32, i64, u64, dbl, fd}
 use Rattle.types.proofs.CodeLaws.{size_is, size-aligns}
 use Rattle.basic.proofs.BaseLaws.{as_number}
-use borrow.Author.Rules.{rules}
 use Rattle.basic.proofs.base.Goals as goal
 
 pub returns-in-121 : goal.returns-in-121

@@ -1,16 +1,15 @@
 -- The length is tested, and then whether the number is 0 or 1.
-use mathlib.Core.Path.{◌≡◌, sym, ◌∙◌, ap}
+use mathlib.Core.Path.{sym, ◌∙◌, ap}
 use native.Mathlib.Omega.{arith}
 use lib.Seq.{length-take-le}
 use mathlib.Core.Path.{refl, subst}
 use Prim.Native.Nat.{ℕ, ◌<◌, ◌≤◌}
-use lib.Dec.{T, ltb, lt→ltb}
+use lib.Dec.{lt→ltb}
 use borrow.Author.Tests.{le-ltb}
 use Rattle.meaning.specs.Number.{load}
 use Rattle.meaning.specs.Types.{bool}
 use Rattle.util.proofs.Windows.{seen}
 use Rattle.basic.proofs.BaseLaws.{number_short, number_read, number-wrong}
-use borrow.Author.Rules.{rules}
 use Rattle.basic.proofs.boolean.Goals as goal
 
 pub returns-then-end-off-lt4 : goal.returns-then-end-off-lt4

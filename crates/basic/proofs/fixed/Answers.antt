@@ -1,10 +1,7 @@
 -- Any bits are a value, so only the length is tested.
-use mathlib.Core.Path.{◌≡◌, sym, ◌∙◌, ap}
 use native.Mathlib.Omega.{arith}
 use lib.Seq.{length-take-le}
-use Rattle.meaning.specs.Types.{size}
 use Rattle.basic.proofs.BaseLaws.{number_short, number_read}
-use borrow.Author.Rules.{rules}
 use Rattle.basic.proofs.fixed.Goals as goal
 
 pub returns-then-end-off : goal.returns-then-end-off

@@ -1,9 +1,6 @@
 -- The padding to its size, and then its bytes.
-use mathlib.Core.Path.{◌≡◌, sym, ◌∙◌, ap}
-use native.Mathlib.Omega.{arith}
 use Rattle.util.proofs.Pads.{padded-within}
 use Rattle.basic.proofs.BaseLaws.{number-stop, number_at}
-use borrow.Author.Rules.{rules}
 use Rattle.basic.proofs.number.Goals as goal
 
 pub fixed-requires : goal.fixed-requires

@@ -1,18 +1,13 @@
 -- The padding by the table, and then the value.
-use mathlib.Core.Path.{◌≡◌, sym, ◌∙◌, ap}
-use native.Mathlib.Omega.{arith}
-use lib.Seq.{length-take-le}
+use mathlib.Core.Path.{sym, ◌∙◌, ap}
 use mathlib.Core.Path.{subst}
 use Prim.Native.Nat.{ℕ}
 use lib.Dec.{T}
 use Rattle.meaning.specs.Writers.{is_alignment}
-use Rattle.meaning.specs.Reader.{reached_of}
-use Rattle.meaning.specs.ReadValue.{padding}
 use Rattle.types.specs.Codes.{align_code}
 use Rattle.types.proofs.CodeLaws.{align-base, base-is-alignment}
 use Rattle.util.proofs.Pads.{padded-within}
 use Rattle.basic.proofs.BaseLaws.{base-stop, base-bare, base-padding}
-use borrow.Author.Rules.{rules}
 use Rattle.basic.proofs.tested.Goals as goal
 
 pub padded-requires : goal.padded-requires

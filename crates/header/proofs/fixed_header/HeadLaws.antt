@@ -1,7 +1,7 @@
 -- The first 12 bytes by the ways through the code.
 use Prim.Native.Nat.{ℕ, ◌≤◌, ◌<◌}
 use native.Mathlib.Omega.{arith}
-use mathlib.Core.Bool.{Bool, true, false}
+use mathlib.Core.Bool.{true, false}
 use mathlib.Core.List.{List}
 use mathlib.Core.Path.{◌≡◌, ap, ap₂, sym, subst, ◌∙◌}
 use lib.ListN.{length, take, drop, get_or}
@@ -14,7 +14,7 @@ use Rattle.meaning.specs.declared.Fault.TheVariants.{NotEnoughBytes, InvalidByte
 use Rattle.meaning.specs.Faults.{refusal}
 use Rattle.meaning.specs.Number.{load}
 use Rattle.meaning.specs.Message.{Fixed}
-use Rattle.meaning.specs.Reader.{got, fault, R, ret, ◌>>=◌, ◌>>◌, check, bytes}
+use Rattle.meaning.specs.Reader.{got, R, ret, ◌>>◌, check, bytes}
 use Rattle.meaning.specs.ReadMessage.{is_mark, order_of, is_kind, kind_of, fixed_in, size_in, fixed_r}
 use Rattle.meaning.proofs.Local.{bind-got, bind-fault, bytes-yes, bytes-no}
 use Rattle.meaning.proofs.Meets.{check_bind, check-stop}

@@ -18,8 +18,8 @@ use Rattle.meaning.specs.declared.Fields.{Fields}
 use Rattle.meaning.specs.declared.Entry.TheVariants.{Absent}
 use Rattle.meaning.specs.declared.Fault.TheVariants.{InvalidHeaderFields}
 use Rattle.meaning.specs.Faults.{refusal}
-use Rattle.meaning.specs.Types.{Base, fix, str, path, sig, base, arr, dict, struct, variant, Var}
-use Rattle.meaning.specs.Message.{Wants, nothing, exactly, anything, wants, Field, enc_field, count, complete, needed, every, known_codes}
+use Rattle.meaning.specs.Types.{Base, Var}
+use Rattle.meaning.specs.Message.{Wants, nothing, exactly, anything, wants, Field, count, complete, needed, every, known_codes}
 use Rattle.meaning.specs.Reader.{Res, got, fault, ret, ◌>>=◌, ◌>>◌, check, many}
 use Rattle.meaning.specs.ReadMessage.{field_r}
 use Rattle.meaning.specs.Header.{entry_as, end_of, entry, fields_from}

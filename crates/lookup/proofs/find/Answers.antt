@@ -1,8 +1,7 @@
 -- The header that is read has the entry, or the message is refused and has none.
-use mathlib.Core.Path.{◌≡◌, sym, ap, ◌∙◌}
+use mathlib.Core.Path.{sym, ap, ◌∙◌}
 use Rattle.meaning.specs.declared.HeaderRead.{HeaderRead}
 use Rattle.lookup.specs.Found.{found_in}
-use borrow.Author.Rules.{rules}
 use Rattle.lookup.proofs.find.Goals as goal
 
 pub returns-in-Read : goal.returns-in-Read

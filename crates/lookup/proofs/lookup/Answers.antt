@@ -1,7 +1,6 @@
 -- The entry that is found says which part of the message it is; without one the fallback comes back.
 use native.Mathlib.Omega.{arith}
 use Rattle.lookup.proofs.LookupLaws.{look-text, look-number, look-absent}
-use borrow.Author.Rules.{rules}
 use Rattle.lookup.proofs.lookup.Goals as goal
 
 pub overflow_add-past : goal.overflow_add-past

@@ -1,8 +1,12 @@
 -- The loop's invariant: the byte stands nowhere before the index, so what is left to search leads to what all of it leads to.
 use native.Mathlib.Omega.{arith}
+use mathlib.Core.Path.{refl}
 use borrow.Author.Tests.{eq-eqb, ne_eqb}
 use Rattle.question_lines.proofs.Laws.{find-step, find-end}
 use Rattle.question_lines.proofs.find.Goals as goal
+
+pub loop-i-init : goal.loop-i-init
+loop-i-init c = (omega arith, c.requires.ordered, refl)
 
 pub returns-then-s-i : goal.returns-then-s-i
 returns-then-s-i c =

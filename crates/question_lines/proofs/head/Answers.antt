@@ -10,4 +10,4 @@ slice_bounds-result-end c =
 
 pub returns : goal.returns
 returns c =
-    rw (← found 32 _ _ c.find-end.ensures.place)
+    rw (← found 32 c.args.s.now _ c.find-end.ensures.place)

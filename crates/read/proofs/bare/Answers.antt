@@ -7,7 +7,6 @@ use Rattle.meaning.specs.Writers.{is_alignment}
 use Rattle.types.proofs.CodeLaws.{size-is-alignment}
 use Rattle.read.proofs.FixedTypes.{size_of}
 use Rattle.read.proofs.Ways.{too_few, is-valid, is-invalid}
-use borrow.Author.Rules.{rules}
 use Rattle.read.proofs.bare.Goals as goal
 
 pub returns-then-buf-at : goal.returns-then-buf-at

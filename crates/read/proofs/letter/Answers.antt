@@ -2,7 +2,6 @@
 use mathlib.Core.Path.{◌≡◌, sym, ap}
 use Rattle.read.specs.Bits.{letter_of}
 use Rattle.meaning.specs.declared.FixedValue.{FixedValue}
-use borrow.Author.Rules.{rules}
 use Rattle.read.proofs.letter.Goals as goal
 
 is : {v w : FixedValue} → v ≡ w → letter_of w ≡ letter_of v

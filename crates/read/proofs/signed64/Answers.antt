@@ -3,7 +3,6 @@ use Prim.Native.Nat.{◌-◌}
 use native.Mathlib.Omega.{arith}
 use mir.Syntax.{w64}
 use Rattle.read.proofs.Signs.{low, fits, high}
-use borrow.Author.Rules.{rules}
 use Rattle.read.proofs.signed64.Goals as goal
 
 pub overflow_sub-result-else-bits-lt9223372036854775808 : goal.overflow_sub-result-else-bits-lt9223372036854775808

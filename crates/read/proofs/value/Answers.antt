@@ -9,7 +9,7 @@ use Rattle.meaning.specs.FixedValue.{fixed_value}
 use Rattle.meaning.specs.declared.FixedValue.{FixedValue}
 use Rattle.meaning.specs.declared.FixedValue.TheVariants.{Int16, Int32, Int64}
 use Rattle.read.proofs.FixedTypes.{told, small, is-fd}
-use borrow.Author.Rules.{rules, sfits_of}
+use borrow.Author.Rules.{sfits_of}
 use Rattle.read.proofs.value.Goals as goal
 
 -- the value of a type that has these bits

@@ -5,7 +5,6 @@ use Rattle.meaning.specs.Types.{variant}
 use Rattle.meaning.specs.Signature.{open0, in_arr}
 use Rattle.signature.proofs.CodeLaws.{coded, step-base, step_variant, step-array, step-struct, step-curl, step-close, step-uncurl, step-bad}
 use Rattle.signature.proofs.MarkLaws.{structs-low, arrays-low, refuses, leaf-variant, begins-array, begins-struct}
-use borrow.Author.Rules.{rules}
 use Rattle.signature.proofs.advance.Goals as goal
 
 pub returns-then-is_basic : goal.returns-then-is_basic

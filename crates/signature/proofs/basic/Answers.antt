@@ -4,7 +4,6 @@ use native.Mathlib.Omega.{arith}
 use Rattle.meaning.specs.Types.{base}
 use Rattle.signature.specs.Codes.{key_tok}
 use Rattle.signature.proofs.MarkLaws.{the-mark, not-mark, refuses, leaf-base, key-yes, key-no, not_key}
-use borrow.Author.Rules.{rules}
 use Rattle.signature.proofs.basic.Goals as goal
 
 pub returns-then-is_key : goal.returns-then-is_key

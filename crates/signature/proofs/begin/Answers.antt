@@ -2,7 +2,6 @@
 use mathlib.Core.Logic.{inl, inr}
 use native.Mathlib.Omega.{arith}
 use Rattle.signature.proofs.MarkLaws.{begin-none, begin-one}
-use borrow.Author.Rules.{rules}
 use Rattle.signature.proofs.begin.Goals as goal
 
 pub returns-then-here-eq-KEY : goal.returns-then-here-eq-KEY

@@ -5,7 +5,6 @@ use native.Mathlib.Omega.{arith}
 use borrow.Author.Tests.{eq-eqb, ne_eqb}
 use Rattle.signature.specs.Ends.{bracketed}
 use Rattle.signature.proofs.EndLaws.{bracket-none, less-sub}
-use borrow.Author.Rules.{rules}
 use Rattle.signature.proofs.bracket.Goals as goal
 
 pub returns-then-c-eq40 : goal.returns-then-c-eq40

@@ -2,7 +2,6 @@
 use native.Mathlib.Omega.{arith}
 use Rattle.meaning.specs.Signature.{close}
 use Rattle.signature.proofs.MarkLaws.{the-mark, not-mark, wider, whole_ready, refuses, close-fields, close-empty, close-none}
-use borrow.Author.Rules.{rules}
 use Rattle.signature.proofs.close.Goals as goal
 
 pub returns-then-mark-eq-FIELDS : goal.returns-then-mark-eq-FIELDS

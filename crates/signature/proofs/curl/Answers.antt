@@ -3,7 +3,6 @@ use native.Mathlib.Omega.{arith}
 use Rattle.meaning.specs.Types.{loose}
 use Rattle.meaning.specs.Signature.{need_key}
 use Rattle.signature.proofs.MarkLaws.{not-mark, arrays-low, begins-dict, curl-array, curl-loose}
-use borrow.Author.Rules.{rules}
 use Rattle.signature.proofs.curl.Goals as goal
 
 pub returns-then-marks-top-eq-ARRAY : goal.returns-then-marks-top-eq-ARRAY

@@ -2,7 +2,6 @@
 use mathlib.Core.Path.{ap, sym, ◌∙◌}
 use Rattle.meaning.specs.declared.Counted.TheVariants.{Refused}
 use Rattle.signature.proofs.RunLaws.{end-open, end-fine, end-deep}
-use borrow.Author.Rules.{rules}
 use Rattle.signature.proofs.finished.Goals as goal
 
 pub returns-then-state-ne0 : goal.returns-then-state-ne0

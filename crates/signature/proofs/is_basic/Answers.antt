@@ -5,7 +5,6 @@ use mathlib.Core.Bool.{not}
 use lib.Dec.{eqb}
 use native.Mathlib.Omega.{arith}
 use Rattle.signature.proofs.CodeLaws.{composite-code, table-code}
-use borrow.Author.Rules.{rules}
 use Rattle.signature.proofs.is_basic.Goals as goal
 
 pub returns-in-97 : goal.returns-in-97

@@ -2,7 +2,6 @@
 use mathlib.Core.Path.{◌∙◌, sym}
 use native.Mathlib.Omega.{arith}
 use Rattle.signature.proofs.CodeLaws.{key-basic, key-bool}
-use borrow.Author.Rules.{rules}
 use Rattle.signature.proofs.is_key.Goals as goal
 
 pub returns-then-c-eq98 : goal.returns-then-c-eq98

@@ -3,7 +3,6 @@ use Rattle.meaning.specs.Signature.{put}
 use Rattle.meaning.specs.Types.{variant}
 use Rattle.signature.proofs.MarkLaws.{leaf-takes, leaf-variant}
 use mathlib.Core.Path.{refl}
-use borrow.Author.Rules.{rules}
 use Rattle.signature.proofs.leaf.Goals as goal
 
 pub put-requires : goal.put-requires

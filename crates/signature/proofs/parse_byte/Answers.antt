@@ -3,7 +3,6 @@ use mathlib.Core.Path.{ap, sym, ◌∙◌}
 use native.Mathlib.Omega.{arith}
 use Rattle.meaning.specs.declared.Counted.TheVariants.{Refused}
 use Rattle.signature.proofs.RunLaws.{alone-array, alone-struct, alone-none, alone-type}
-use borrow.Author.Rules.{rules}
 use Rattle.signature.proofs.parse_byte.Goals as goal
 
 pub returns-then-c-eq97 : goal.returns-then-c-eq97

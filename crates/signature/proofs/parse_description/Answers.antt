@@ -6,7 +6,6 @@ use Rattle.meaning.specs.Signature.{parse}
 use Rattle.meaning.specs.ReadValue.{counted_of}
 use Rattle.meaning.specs.declared.Counted.TheVariants.{Refused}
 use Rattle.signature.proofs.RunLaws.{too_long, not-long, the-byte}
-use borrow.Author.Rules.{rules}
 use Rattle.signature.proofs.parse_description.Goals as goal
 
 pub returns-then-sig-gt-MOST : goal.returns-then-sig-gt-MOST

@@ -1,10 +1,8 @@
 -- Each array that the type completes is closed by the loop, and the mark that is left takes the type as the grammar's stack does.
 use Prim.Native.Nat.{◌≤◌}
-use native.Mathlib.Omega.{arith}
-use borrow.Author.Rules.{rules}
 use Rattle.meaning.specs.Signature.{Step}
 use Rattle.signature.specs.Marks.{Whole}
-use Rattle.signature.proofs.MarkLaws.{placed, unarray, put-floor, put-empty, put-fields, put-value, put-none}
+use Rattle.signature.proofs.MarkLaws.{placed}
 use Rattle.signature.proofs.put.Given as goal
 
 abbrev pub invariant-loop-top : goal.invariant-loop-top

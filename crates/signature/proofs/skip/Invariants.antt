@@ -1,10 +1,8 @@
 -- Both loops keep how many bytes are left of the type, counting brackets; a type spelled there ends after that many.
 use Prim.Native.Nat.{◌+◌, ◌-◌, ◌≤◌}
-use mathlib.Core.Path.{◌≡◌, refl, sym, ◌∙◌}
-use native.Mathlib.Omega.{arith}
-use borrow.Author.Rules.{rules}
-use lib.ListN.{length, drop, get_or}
-use Rattle.signature.proofs.EndLaws.{stop, scan, type_end, ends_at, first-within, next-within, end-array, end-first, end-next, stopped, bracket-one}
+use mathlib.Core.Path.{◌≡◌}
+use lib.ListN.{length, drop}
+use Rattle.signature.proofs.EndLaws.{stop, scan, type_end}
 use Rattle.signature.proofs.skip.Given as goal
 
 abbrev pub invariant-loop-i : goal.invariant-loop-i

@@ -2,7 +2,6 @@
 use native.Mathlib.Omega.{arith}
 use Rattle.meaning.specs.Signature.{uncurl}
 use Rattle.signature.proofs.MarkLaws.{not-mark, wider, whole_ready, refuses, uncurl-end, uncurl-none}
-use borrow.Author.Rules.{rules}
 use Rattle.signature.proofs.uncurl.Goals as goal
 
 pub returns-then-marks-top-eq-END : goal.returns-then-marks-top-eq-END

@@ -2,7 +2,6 @@
 use mathlib.Core.Path.{ap, sym, ◌∙◌}
 use Rattle.meaning.specs.declared.Counted.TheVariants.{Refused}
 use Rattle.signature.proofs.RunLaws.{check-empty, check-some}
-use borrow.Author.Rules.{rules}
 use Rattle.signature.proofs.validate_signature.Goals as goal
 
 pub returns-then-sig-eq0 : goal.returns-then-sig-eq0

@@ -1,7 +1,6 @@
 -- Either number.
 use mathlib.Core.Path.{refl}
 use borrow.Author.Tests.{ne_eqb}
-use borrow.Author.Rules.{rules}
 use Rattle.stream.proofs.is_short.Goals as goal
 
 pub returns-then-number-eq2 : goal.returns-then-number-eq2

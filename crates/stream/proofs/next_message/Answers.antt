@@ -1,7 +1,6 @@
 -- Each return is one of the three answers.
 use mathlib.Core.Path.{sym, ◌∙◌}
 use Rattle.stream.proofs.Laws.{is_whole, is_cut, is-refused-whole, is-refused}
-use borrow.Author.Rules.{rules}
 use Rattle.stream.proofs.next_message.Goals as goal
 
 pub returns-then-buf-size : goal.returns-then-buf-size

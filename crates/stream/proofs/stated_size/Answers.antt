@@ -3,7 +3,6 @@ use native.Mathlib.Omega.{arith}
 use mathlib.Core.Path.{◌∙◌}
 use Rattle.types.proofs.CodeLaws.{align-struct, struct-aligns}
 use Rattle.stream.proofs.Laws.{gap-eight, gap-small, stated-least, stated-is}
-use borrow.Author.Rules.{rules}
 use Rattle.stream.proofs.stated_size.Goals as goal
 
 pub returns-then-buf-lt16 : goal.returns-then-buf-lt16

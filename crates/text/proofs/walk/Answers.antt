@@ -37,7 +37,6 @@ loop-i-preserved c =
     let a = c.args in
     let loop = c.loop-i in
     let loop-test = c.loop-i-test in
-    
     let one_more = c.one_more in
     let s : List ℕ = a.s.now in
     let i : ℕ = loop.i in (

@@ -1,8 +1,7 @@
 -- A message in the parts that the reader of the meaning crate takes one after the other.
-use Prim.Native.Nat.{ℕ, ◌+◌, ◌≤◌, ◌<◌}
+use Prim.Native.Nat.{ℕ}
 use mathlib.Core.List.{List}
 use mathlib.Core.Path.{◌≡◌, ap, sym}
-use lib.ListN.{length, take}
 use Rattle.meaning.specs.declared.Refusal.{Refusal}
 use Rattle.meaning.specs.declared.HeaderRead.TheVariants.{Refused}
 use Rattle.meaning.specs.declared.Fault.TheVariants.{InvalidHeaderFields}

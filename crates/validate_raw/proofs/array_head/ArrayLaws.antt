@@ -1,12 +1,12 @@
 -- Arrays and dicts: what their head says of the rest, whatever is done with the contents. The head is read once, and the contents then lie
 -- between two places.
-use Prim.Native.Nat.{ℕ, zero, suc, ◌+◌, ◌-◌, ◌*◌, ◌/◌, ◌%◌, ◌≤◌, ◌<◌}
+use Prim.Native.Nat.{ℕ, ◌+◌, ◌%◌, ◌≤◌}
 use native.Mathlib.Omega.{arith}
-use mathlib.Core.Bool.{Bool, true, false}
-use mathlib.Core.List.{List, [], ◌∷◌}
+use mathlib.Core.Bool.{Bool}
+use mathlib.Core.List.{List}
 use mathlib.Core.Path.{◌≡◌, refl, ap, sym, subst, ◌∙◌}
 use lib.ListN.{length, take, drop}
-use lib.Dec.{leb, eqb, T}
+use lib.Dec.{leb, eqb}
 use borrow.Author.Tests.{eq-eqb, ne_eqb}
 use Rattle.meaning.specs.declared.Order.{Order}
 use Rattle.meaning.specs.declared.Refusal.{Refusal}
@@ -14,13 +14,12 @@ use Rattle.meaning.specs.declared.Place.{Place}
 use Rattle.meaning.specs.declared.Length.{Length}
 use Rattle.meaning.specs.declared.Fault.TheVariants.{NotEnoughBytes, NotEnoughBytesForCollection}
 use Rattle.meaning.specs.Faults.{refusal}
-use Rattle.meaning.specs.Reader.{Res, got, fault, stop, R, ret, here, ◌>>=◌, ◌>>◌, check, bytes, ahead, within, many}
+use Rattle.meaning.specs.Reader.{Res, got, fault, stop, R, ret, ◌>>=◌, ◌>>◌, check, bytes, ahead, within, many}
 use Rattle.meaning.specs.Number.{load}
 use Rattle.meaning.specs.ReadValue.{padding, elements, length_r, contents_of, array_of}
-use Rattle.meaning.proofs.Local.{Local, Cmp, is_le, is_gt, cmp, Ran, ran, stopped, bind_is, bind-got, bind-fault, bind_inv, ret_inv, bytes-inv, ahead-yes, ahead-no, ahead-inv, within-yes, within-no, fault-inj, ret-no-fault, refuse-alike}
-use Rattle.meaning.proofs.ValueLocal.{padding-local, length_r-local}
-use Rattle.meaning.proofs.Meets.{At, here-bind, check_bind, bytes-bind-inv}
-use Rattle.basic.specs.declared.spelled.Opened.{Opened}
+use Rattle.meaning.proofs.Local.{Cmp, is_le, is_gt, cmp, Ran, ran, stopped, bind_is, bind-got, bind-fault, bind_inv, ret_inv, ahead-yes, ahead-no, ahead-inv, within-yes, within-no, fault-inj, ret-no-fault, refuse-alike}
+use Rattle.meaning.proofs.ValueLocal.{padding-local}
+use Rattle.meaning.proofs.Meets.{here-bind, check_bind, bytes-bind-inv}
 use Rattle.basic.specs.declared.spelled.Opened.TheVariants.{Inside, Shut}
 use Rattle.validate_raw.specs.Head.{lying_r, head_r, inside_if, opened_of}
 

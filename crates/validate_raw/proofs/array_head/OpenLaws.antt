@@ -3,9 +3,8 @@ use Prim.Native.Nat.{ℕ, ◌+◌, ◌≤◌, ◌<◌}
 use native.Mathlib.Omega.{arith}
 use mathlib.Core.Bool.{Bool}
 use mathlib.Core.List.{List}
-use mathlib.Core.Path.{◌≡◌, refl, ap, sym, ◌∙◌}
+use mathlib.Core.Path.{◌≡◌, ap, sym, ◌∙◌}
 use lib.ListN.{length, take, drop}
-use lib.Dec.{leb}
 use Rattle.meaning.specs.declared.Order.{Order}
 use Rattle.meaning.specs.declared.Place.{Place}
 use Rattle.meaning.specs.declared.Refusal.{Refusal}
@@ -13,7 +12,7 @@ use Rattle.meaning.specs.declared.Fault.TheVariants.{NotEnoughBytes, NotEnoughBy
 use Rattle.meaning.specs.declared.Reached.TheVariants.{At, Refused}
 use Rattle.meaning.specs.Faults.{refusal}
 use Rattle.meaning.specs.Number.{load}
-use Rattle.meaning.specs.Reader.{Res, got, fault, stop, R, ret, here, ◌>>=◌, ◌>>◌, bytes, ahead, reached_of}
+use Rattle.meaning.specs.Reader.{got, stop, ret, ◌>>=◌, bytes, ahead, reached_of}
 use Rattle.meaning.specs.ReadValue.{padding, length_r}
 use Rattle.meaning.proofs.Local.{bind-got, bind-fault, bytes-yes, bytes-no, ahead-yes, ahead-no, leb-true, leb-false}
 use Rattle.meaning.proofs.Meets.{here-bind}

@@ -8,7 +8,7 @@ use lib.ListN.{get_or}
 use lib.Dec.{eqb, T}
 use borrow.Author.Tests.{eq-eqb, ne_eqb, eqb-true}
 use Rattle.meaning.specs.Types.{Fix, byte, bool, i16, u16, i32, u32, i64, u64, dbl, fd, Base, fix, str, path, sig}
-use Rattle.meaning.specs.Types.{in_array, loose, Ty, base, arr, dict, struct, variant, size, align, whole}
+use Rattle.meaning.specs.Types.{in_array, loose, Ty, base, arr, dict, struct, variant, size}
 use Rattle.meaning.specs.Signature.{is_base, is_curl, toks, code, spell, find}
 use Rattle.meaning.specs.Text.{pick}
 use Rattle.meaning.specs.Writers.{is_alignment}

@@ -13,7 +13,7 @@ use Rattle.meaning.specs.Places.{TypeAt, Typed}
 use Rattle.meaning.proofs.Local.{both}
 use Rattle.meaning.proofs.PlaceLaws.{spelled-head, is-array, is-dict, is-loose}
 use Rattle.validate_raw.specs.FirstBytes.{element_place}
-use Rattle.validate_raw.specs.Items.{Item, single, pair, item_of}
+use Rattle.validate_raw.specs.Items.{single, pair, item_of}
 use Rattle.validate_raw.proofs.first_bytes.ElementLaws.{Holding, array, alone}
 
 -- t is an array or a dict of what u stands for

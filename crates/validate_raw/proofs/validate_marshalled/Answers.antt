@@ -1,13 +1,8 @@
 -- The count of types decides first, then the offset, then the walk.
-use mathlib.Core.Path.{◌≡◌, sym, ◌∙◌, ap}
+use mathlib.Core.Path.{sym, ◌∙◌}
 use native.Mathlib.Omega.{arith}
 use Rattle.validate_raw.proofs.EntryLaws.{single, one_type, other-count, no-count, beyond, value-past, value-stop}
 use borrow.Author.Rules.{rules}
-use Rattle.validate_raw.proofs.validate_marshalled.Reads as reads
-use Rattle.validate_raw.proofs.validate_marshalled.Lts as lts
-use Rattle.meaning.proofs.refuse.Reads as refuse-reads
-use Rattle.signature.proofs.parse_description.Reads as parse-description-reads
-use Rattle.validate_raw.proofs.walk.value.Reads as value-reads
 use Rattle.validate_raw.proofs.validate_marshalled.Goals as goal
 
 pub parse_description-requires : goal.parse_description-requires

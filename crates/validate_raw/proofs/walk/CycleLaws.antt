@@ -3,7 +3,7 @@
 use Prim.Native.Nat.{ℕ, ◌+◌, ◌-◌, ◌*◌, ◌%◌, ◌≤◌, ◌<◌}
 use native.Mathlib.Omega.{arith}
 use native.Mathlib.Nat.{pos_of_ne-zero}
-use mathlib.Core.List.{List, [], ◌∷◌}
+use mathlib.Core.List.{List}
 use mathlib.Core.Path.{◌≡◌, refl, ap, sym, subst, ◌∙◌}
 use lib.ListN.{length, take, drop, get_or, length-take}
 use lib.Seq.{length-take-le, take-take}
@@ -16,11 +16,11 @@ use Rattle.meaning.specs.declared.Fault.TheVariants.{NotEnoughBytes}
 use Rattle.meaning.specs.declared.Reached.{Reached}
 use Rattle.meaning.specs.declared.Reached.TheVariants.{At, Refused}
 use Rattle.meaning.specs.Faults.{refusal}
-use Rattle.meaning.specs.Types.{Fix, Base, fix, loose, Ty, Tys, one, more, base, dict, struct, Of, Var, size, align, whole}
+use Rattle.meaning.specs.Types.{Fix, Base, fix, loose, Ty, Tys, one, more, base, dict, struct, Of, Var, size, whole}
 use mathlib.Core.Bool.{false}
 use Rattle.meaning.specs.Signature.{code, spell}
-use Rattle.meaning.specs.Places.{list_of, TypeAt, Typed, FieldsAt, EntryAt}
-use Rattle.meaning.specs.Reader.{Res, got, fault, R, ◌>>◌, many, reached_of}
+use Rattle.meaning.specs.Places.{list_of, TypeAt, Typed, FieldsAt}
+use Rattle.meaning.specs.Reader.{Res, got, fault, R, many, reached_of}
 use Rattle.meaning.proofs.ValueMeets.{ne-size}
 use Rattle.meaning.specs.ReadValue.{valid, padding, base_r, array_r, pair_r, read, reads, read_var}
 use Rattle.meaning.proofs.Local.{Local, bind-got, bind-fault, many-end}
@@ -37,7 +37,7 @@ use Rattle.basic.specs.declared.spelled.Opened.TheVariants.{Inside, Shut}
 use Rattle.validate_raw.specs.Head.{head_r, opened_of}
 use Rattle.validate_raw.specs.FirstBytes.{whole_code, composite, element_align}
 use Rattle.validate_raw.specs.Items.{Item, single, pair, item_of, align_item, whole_item}
-use Rattle.validate_raw.specs.Walk.{walked_of, walked_to, entry_r, Held, item_r, after, fields_to, FieldsTyped}
+use Rattle.validate_raw.specs.Walk.{walked_of, walked_to, entry_r, Held, item_r, after, fields_to}
 use Rattle.validate_raw.proofs.array_head.ArrayLaws.{inside-inv, inside-after}
 use Rattle.basic.specs.Basic.{BaseCode}
 use Rattle.validate_raw.proofs.first_bytes.ItemLaws.{is-single}

@@ -1,7 +1,7 @@
 -- The answers of the walk, by the ways through the code: one law for each.
-use Prim.Native.Nat.{ℕ, zero, suc, ◌+◌, ◌-◌, ◌*◌, ◌/◌, ◌%◌, ◌≤◌, ◌<◌}
+use Prim.Native.Nat.{ℕ, zero, suc, ◌+◌, ◌-◌, ◌*◌, ◌/◌, ◌%◌, ◌≤◌}
 use native.Mathlib.Omega.{arith}
-use native.Mathlib.Nat.{div-add-mod', div-le_self, zero-mod}
+use native.Mathlib.Nat.{div-add-mod', div-le_self}
 use mathlib.Core.List.{List}
 use mathlib.Core.Path.{◌≡◌, refl, ap, sym, subst, ◌∙◌}
 use lib.ListN.{length, take}
@@ -20,7 +20,7 @@ use Rattle.meaning.specs.Number.{gap}
 use Rattle.meaning.specs.Reader.{Res, got, fault, R, ret, fail, ◌>>=◌, many, reached_of}
 use Rattle.meaning.specs.ReadValue as ReadValue
 use Rattle.meaning.specs.ReadValue.{valid, single, base_r, array_r, pair_r, read, variant_of, read_var}
-use Rattle.meaning.proofs.Local.{bind-got, bind-fault, bind_inv, Ran, ran, stopped, bind_is, many-end, fault-inj}
+use Rattle.meaning.proofs.Local.{bind-got, bind-fault, bind_inv, Ran, ran, stopped, bind_is, fault-inj}
 use Rattle.meaning.proofs.Meets.{here-bind, padding-sound, length-pad}
 use Rattle.meaning.proofs.ValueMeets.{gap-al}
 use Rattle.meaning.proofs.Plain.{plain}

@@ -1,7 +1,6 @@
 -- Each return is one way through the first 12 bytes.
 use mathlib.Core.Path.{sym, ◌∙◌}
 use Rattle.header.proofs.fixed_header.HeadLaws.{start-short, start-mark, start-kind, start-read}
-use borrow.Author.Rules.{rules}
 use Rattle.header.proofs.fixed_header.fixed.Goals as goal
 
 pub returns-then-buf-lt12 : goal.returns-then-buf-lt12

@@ -4,7 +4,6 @@ use native.Mathlib.Omega.{arith}
 use Rattle.meaning.specs.Message.{wants}
 use Rattle.header.proofs.header_field.CodeLaws.{kept, other-asks, none-asks}
 use Rattle.header.proofs.header_field.FieldLaws.{one_inside, one-shut, some, typed, right-type, wrong_type, known-code, content-shut, content-zero, content-wrong, content-known, content-past, content-stop}
-use borrow.Author.Rules.{rules}
 use Rattle.header.proofs.header_field.content.Goals as goal
 
 pub overflow_add-stop : goal.overflow_add-stop

@@ -1,7 +1,6 @@
 -- A number, or a text behind its length, by the type's code.
 use native.Mathlib.Omega.{arith}
 use Rattle.header.proofs.header_field.KnownLaws.{is_number, is-spelling, is-text}
-use borrow.Author.Rules.{rules}
 use Rattle.header.proofs.header_field.entry_of.Goals as goal
 
 pub load32-requires : goal.load32-requires

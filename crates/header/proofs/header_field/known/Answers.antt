@@ -8,7 +8,6 @@ use Rattle.types.proofs.CodeLaws.{align-base, base-is-alignment}
 use Rattle.util.proofs.Pads.{padded-within}
 use Rattle.basic.proofs.BaseLaws.{base-padding}
 use Rattle.header.proofs.header_field.KnownLaws.{only, pad-stop, bare-stop, value, stood, holds}
-use borrow.Author.Rules.{rules}
 use Rattle.header.proofs.header_field.known.Goals as goal
 
 pub padded-requires : goal.padded-requires

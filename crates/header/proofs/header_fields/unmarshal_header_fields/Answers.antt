@@ -1,10 +1,9 @@
 -- The loop is `many` of the fields, and the arrays hold per code what the fields read so far say.
-use Prim.Native.Nat.{ℕ, ◌≤◌, ◌-◌, ◌+◌}
-use mathlib.Core.Path.{◌≡◌, refl, sym, subst, ap, ◌∙◌}
+use Prim.Native.Nat.{ℕ, ◌-◌}
+use mathlib.Core.Path.{refl, sym, subst, ap, ◌∙◌}
 use native.Mathlib.Omega.{arith}
-use lib.ListN.{length, get_or, take, set, length-set}
+use lib.ListN.{take, set, length-set}
 use lib.Seq.{length-take-le}
-use borrow.Author.Rules.{rules}
 use Rattle.meaning.proofs.NumberLaws.{bytes_of, bytes_take}
 use Rattle.meaning.specs.declared.Entry.{Entry}
 use Rattle.meaning.specs.declared.Entry.TheVariants.{Absent}

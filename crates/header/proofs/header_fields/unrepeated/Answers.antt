@@ -1,7 +1,5 @@
 -- The loop looks at each known code, and stops at the first that was seen twice.
-use Prim.Native.Nat.{ℕ, ◌≤◌, ◌<◌, ◌-◌}
-use mathlib.Core.Path.{◌≡◌, sym}
-use mathlib.Core.Bool.{true}
+use mathlib.Core.Path.{sym}
 use native.Mathlib.Omega.{arith}
 use lib.ListN.{get_or}
 use lib.Dec.{leb}

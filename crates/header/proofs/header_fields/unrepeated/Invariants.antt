@@ -1,14 +1,9 @@
 -- The loop looks at each known code, and stops at the first that was seen twice.
 use Prim.Native.Nat.{ℕ, ◌≤◌, ◌<◌, ◌-◌}
-use mathlib.Core.Path.{◌≡◌, sym}
+use mathlib.Core.Path.{◌≡◌}
 use mathlib.Core.Bool.{true}
-use native.Mathlib.Omega.{arith}
 use lib.ListN.{get_or}
 use lib.Dec.{leb}
-use borrow.Author.Rules.{rules}
-use Rattle.meaning.proofs.Local.{leb-true, leb-false}
-use Rattle.header.specs.HeaderFields.{once}
-use Rattle.header.proofs.header_fields.SeenLaws.{all_known, one_known, one_more}
 use Rattle.header.proofs.header_fields.unrepeated.Given as goal
 
 abbrev pub invariant-loop-c : goal.invariant-loop-c

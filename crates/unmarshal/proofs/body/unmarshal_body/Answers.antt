@@ -1,10 +1,7 @@
 -- The loop takes the types of the signature one by one, and then looks whether the bytes are at their end.
-use Prim.Native.Nat.{◌≤◌, ◌-◌}
 use native.Mathlib.Omega.{arith}
-use lib.ListN.{length, take}
 use lib.Seq.{length-take-le}
-use borrow.Author.Rules.{rules}
-use Rattle.unmarshal.proofs.body.BodyLaws.{Left, left-start, left_typed, left-past, left-stop, left_over, left-none}
+use Rattle.unmarshal.proofs.body.BodyLaws.{left-start, left_typed, left-past, left-stop, left_over, left-none}
 use Rattle.unmarshal.proofs.body.unmarshal_body.Goals as goal
 
 pub loop-i-init : goal.loop-i-init

@@ -1,11 +1,10 @@
 -- Each return is one way through what follows the field table.
-use mathlib.Core.Path.{refl, sym, ◌∙◌}
+use mathlib.Core.Path.{refl, ◌∙◌}
 use native.Mathlib.Omega.{arith}
 use Rattle.types.proofs.CodeLaws.{align-struct, struct-aligns}
 use Rattle.util.proofs.Pads.{padded-within}
 use Rattle.meaning.proofs.NumberLaws.{bytes_of}
 use Rattle.unmarshal.proofs.body.NextLaws.{pads-to, held-within, next-stop, sig-within, sig-types, body-over, body_refused, body-read}
-use borrow.Author.Rules.{rules}
 use Rattle.unmarshal.proofs.body.unmarshal_next_message.Goals as goal
 
 pub padded-requires : goal.padded-requires

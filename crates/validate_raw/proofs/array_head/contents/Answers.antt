@@ -5,10 +5,6 @@ use lib.Seq.{length-take-le}
 use Rattle.validate_raw.proofs.array_head.OpenLaws.{lying-over, lying-stop, lying-late, lying-inside}
 use Rattle.util.proofs.Pads.{padded-within}
 use borrow.Author.Rules.{rules}
-use Rattle.validate_raw.proofs.array_head.contents.Reads as reads
-use Rattle.validate_raw.proofs.array_head.contents.Lts as lts
-use Rattle.meaning.proofs.refuse.Reads as refuse-reads
-use Rattle.util.proofs.padded.Reads as padded-reads
 use Rattle.validate_raw.proofs.array_head.contents.Goals as goal
 
 pub overflow_sub-end : goal.overflow_sub-end

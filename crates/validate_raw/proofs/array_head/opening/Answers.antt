@@ -8,14 +8,6 @@ use Rattle.meaning.specs.Number.{load}
 use Rattle.validate_raw.proofs.array_head.OpenLaws.{head-stop, head-short, head_read}
 use Rattle.util.proofs.Pads.{padded-within}
 use borrow.Author.Rules.{rules}
-use Rattle.validate_raw.proofs.array_head.opening.Reads as reads
-use Rattle.validate_raw.proofs.array_head.opening.Lts as lts
-use Rattle.meaning.proofs.refuse.Reads as refuse-reads
-use Rattle.types.proofs.align.Reads as align-reads
-use Rattle.types.proofs.size.Reads as size-reads
-use Rattle.util.proofs.integers.load32.Reads as load32-reads
-use Rattle.util.proofs.padded.Reads as padded-reads
-use Rattle.validate_raw.proofs.array_head.contents.Reads as contents-reads
 use Rattle.validate_raw.proofs.array_head.opening.Goals as goal
 
 pub align-requires : goal.align-requires

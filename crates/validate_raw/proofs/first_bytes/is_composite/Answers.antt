@@ -2,8 +2,6 @@
 use mathlib.Core.Path.{refl}
 use borrow.Author.Tests.{ne_eqb}
 use Rattle.validate_raw.specs.FirstBytes.{composite}
-use Rattle.validate_raw.proofs.first_bytes.is_composite.Reads as reads
-use Rattle.validate_raw.proofs.first_bytes.is_composite.Lts as lts
 use Rattle.validate_raw.proofs.first_bytes.is_composite.Goals as goal
 
 pub returns-then-k-eq97 : goal.returns-then-k-eq97

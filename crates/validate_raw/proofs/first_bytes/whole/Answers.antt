@@ -2,9 +2,6 @@
 use borrow.Author.Tests.{eq-eqb, ne_eqb}
 use Rattle.validate_raw.specs.FirstBytes.{whole_code}
 use borrow.Author.Rules.{rules}
-use Rattle.validate_raw.proofs.first_bytes.whole.Reads as reads
-use Rattle.validate_raw.proofs.first_bytes.whole.Lts as lts
-use Rattle.types.proofs.size.Reads as size-reads
 use Rattle.validate_raw.proofs.first_bytes.whole.Goals as goal
 
 pub size-requires : goal.size-requires

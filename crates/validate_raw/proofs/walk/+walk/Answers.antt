@@ -1,19 +1,15 @@
 -- The cycle of calls: each goal is answered by a law. `a` are the arguments, and `c-x` is what is known of x: a call, or a test.
-use Prim.Native.Nat.{ℕ, ◌<◌, ◌+◌, ◌-◌, ◌*◌, ◌≤◌}
+use Prim.Native.Nat.{ℕ, ◌-◌}
 use native.Mathlib.Omega.{arith}
 use native.Mathlib.Nat.{pos_of_ne-zero}
-use borrow.Author.Rules.{rules}
-use mathlib.Core.List.{List}
-use mathlib.Core.Path.{◌≡◌, refl, sym, subst, ◌∙◌}
-use lib.ListN.{length, take, get_or}
+use mathlib.Core.Path.{refl, sym, subst, ◌∙◌}
+use lib.ListN.{take}
 use lib.Dec.{T}
 use Rattle.meaning.specs.declared.Order.TheVariants.{Little}
-use Rattle.meaning.specs.Types.{Ty}
-use Rattle.meaning.specs.Places.{list_of, TypeAt, FieldsAt}
+use Rattle.meaning.specs.Places.{list_of}
 use Rattle.meaning.specs.ReadValue.{base_r, read, read_var}
 use Rattle.meaning.specs.Writers.{is_alignment}
 use Rattle.meaning.proofs.PlaceLaws.{start, start-entry, go-loose, go-value, is-struct, is-loose, in_entry}
-use Rattle.meaning.proofs.Loop.{Onward}
 use Rattle.meaning.proofs.ValueLocal.{base_r-local}
 use Rattle.types.proofs.CodeLaws.{align-struct, struct-aligns}
 use Rattle.util.proofs.Windows.{reached-within}
@@ -23,12 +19,12 @@ use Rattle.basic.proofs.LoopLaws.{began}
 use Rattle.validate_raw.specs.Items.{item_of}
 use Rattle.validate_raw.proofs.first_bytes.ElementLaws.{element-alignment, holding}
 use Rattle.validate_raw.proofs.first_bytes.ItemLaws.{items_at, items-typed, items-from}
-use Rattle.validate_raw.specs.Walk.{walked_to, item_r, fields_to}
+use Rattle.validate_raw.specs.Walk.{item_r}
 use Rattle.validate_raw.proofs.walk.WalkLaws.{goes-past, goes-no, past_next, items-read, variant-deep, variant_shut, variant-past, variant-stop}
-use Rattle.validate_raw.proofs.walk.CycleLaws.{measure, variant-falls, part-fits, item-local, item-grows, value-moved, walk-moved}
+use Rattle.validate_raw.proofs.walk.CycleLaws.{variant-falls, part-fits, item-local, item-grows, value-moved, walk-moved}
 use Rattle.validate_raw.proofs.walk.CycleLaws.{base-walks, variant-walks, basics-walk, base-code, single-walks}
 use Rattle.validate_raw.proofs.walk.CycleLaws.{items-turned, items_refused, items-ended, items-none, struct-stop, struct_fields}
-use Rattle.validate_raw.proofs.walk.CycleLaws.{Rest, rest-start, rest-close, rest_typed, rest-past, rest-stop}
+use Rattle.validate_raw.proofs.walk.CycleLaws.{rest-start, rest-close, rest_typed, rest-past, rest-stop}
 use Rattle.validate_raw.proofs.walk.CycleLaws.{opened-within, array-shut, array-elements, array_plain, array-ragged, entry-stop, entry_key, entry_past, entry_value}
 use Rattle.validate_raw.proofs.walk.+walk.Goals as goal
 

@@ -1,36 +1,17 @@
 -- What falls at each call of the cycle is `measure` of CycleLaws: what is left of the levels, of the signature and of the bytes, and a rank. A loop
 -- says how far its reader has come.
-use Prim.Native.Nat.{ℕ, ◌<◌, ◌+◌, ◌-◌, ◌*◌, ◌≤◌}
-use native.Mathlib.Omega.{arith}
-use native.Mathlib.Nat.{pos_of_ne-zero}
-use borrow.Author.Rules.{rules}
+use Prim.Native.Nat.{ℕ, ◌-◌, ◌≤◌}
 use mathlib.Core.List.{List}
-use mathlib.Core.Path.{◌≡◌, refl, sym, subst, ◌∙◌}
-use lib.ListN.{length, take, get_or}
-use lib.Dec.{T}
-use Rattle.meaning.specs.declared.Order.TheVariants.{Little}
+use mathlib.Core.Path.{◌≡◌}
+use lib.ListN.{length, take}
 use Rattle.meaning.specs.Types.{Ty}
-use Rattle.meaning.specs.Places.{list_of, TypeAt, FieldsAt}
-use Rattle.meaning.specs.ReadValue.{base_r, read, read_var}
-use Rattle.meaning.specs.Writers.{is_alignment}
-use Rattle.meaning.proofs.PlaceLaws.{start, start-entry, go-loose, go-value, is-struct, is-loose, in_entry}
+use Rattle.meaning.specs.Places.{TypeAt, FieldsAt}
+use Rattle.meaning.specs.ReadValue.{read_var}
 use Rattle.meaning.proofs.Loop.{Onward}
-use Rattle.meaning.proofs.ValueLocal.{base_r-local}
-use Rattle.types.proofs.CodeLaws.{align-struct, struct-aligns}
-use Rattle.util.proofs.Windows.{reached-within}
-use Rattle.util.proofs.Pads.{padded-within}
-use Rattle.basic.proofs.spelled.SpellLaws.{inner-at, inner-shut}
-use Rattle.basic.proofs.LoopLaws.{began}
 use Rattle.validate_raw.specs.Items.{item_of}
-use Rattle.validate_raw.proofs.first_bytes.ElementLaws.{element-alignment, holding}
-use Rattle.validate_raw.proofs.first_bytes.ItemLaws.{items_at, items-typed, items-from}
 use Rattle.validate_raw.specs.Walk.{walked_to, item_r, fields_to}
-use Rattle.validate_raw.proofs.walk.WalkLaws.{goes-past, goes-no, past_next, items-read, variant-deep, variant_shut, variant-past, variant-stop}
-use Rattle.validate_raw.proofs.walk.CycleLaws.{measure, variant-falls, part-fits, item-local, item-grows, value-moved, walk-moved}
-use Rattle.validate_raw.proofs.walk.CycleLaws.{base-walks, variant-walks, basics-walk, base-code, single-walks}
-use Rattle.validate_raw.proofs.walk.CycleLaws.{items-turned, items_refused, items-ended, items-none, struct-stop, struct_fields}
-use Rattle.validate_raw.proofs.walk.CycleLaws.{Rest, rest-start, rest-close, rest_typed, rest-past, rest-stop}
-use Rattle.validate_raw.proofs.walk.CycleLaws.{opened-within, array-shut, array-elements, array_plain, array-ragged, entry-stop, entry_key, entry_past, entry_value}
+use Rattle.validate_raw.proofs.walk.CycleLaws.{measure}
+use Rattle.validate_raw.proofs.walk.CycleLaws.{Rest}
 use Rattle.validate_raw.proofs.walk.+walk.Given as goal
 
 abbrev pub decreases-value : goal.decreases-value
