@@ -2,7 +2,7 @@
 use Prim.Native.Nat.{ℕ}
 use mathlib.Core.List.{List}
 use mathlib.Core.Path.{◌≡◌}
-use Rattle.meaning.proofs.OneAnswer.{OneAnswer, OneBuffer, both}
+use Rattle.meaning.proofs.OneAnswer.{both}
 use Rattle.text_out.specs.Puts.{Puts}
 use Rattle.text_out.proofs.put.Reads as put
 use Rattle.text_out.proofs.put_number.Reads as put-number

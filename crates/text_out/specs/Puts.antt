@@ -1,5 +1,5 @@
 -- What putting a text into a buffer leaves there, and the place behind it. A text that the buffer has no room for is left out whole.
-use Rattle.std.specs.Prelude.{ℕ, ◌+◌, Bool, true, false, ◌≡◌, List, [], ◌∷◌, length, leb}
+use Rattle.std.specs.Prelude.{ℕ, ◌+◌, true, false, ◌≡◌, List, [], ◌∷◌, length, leb}
 use Rattle.std.proofs.lemmas.List.Edits.{sets}
 
 pub record Put : Type 0 where

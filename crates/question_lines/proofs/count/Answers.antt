@@ -1,7 +1,6 @@
 -- The loop's invariant: what is counted, and what is left to count, are all.
 use native.Mathlib.Omega.{arith}
 use lib.ListN.{drop_of_length-le}
-use mathlib.Core.Path.{refl}
 use borrow.Author.Tests.{eq-eqb, ne_eqb}
 use Rattle.question_lines.specs.Words.{occurrences}
 use Rattle.question_lines.proofs.Laws.{count-step}
@@ -9,7 +8,7 @@ use Rattle.question_lines.proofs.count.Goals as goal
 use Rattle.question_lines.proofs.count.Goals.{then-s-i, else-s-i}
 
 pub loop-i-init : goal.loop-i-init
-loop-i-init c = (omega arith, omega arith, refl)
+loop-i-init c = (omega arith, omega arith, omega arith)
 
 pub loop-i-preserved : goal.loop-i-preserved
 loop-i-preserved c =
