@@ -24,6 +24,7 @@ use crate::names::{
 use answer_text::{fixed_text, header_text};
 use meaning::{Order, Place, Written};
 use question_lines::{Number, Taken};
+use std::io;
 use stream::Next;
 use unmarshal::check_message;
 use write::texts;
@@ -300,6 +301,6 @@ fn answer(line: &[u8], text: &mut Spelled, buf: &mut Spelled, out: &mut Out, at:
     }
 }
 
-fn main() {
-    input::answer_input();
+fn main(rt: HostRuntime) -> io::Result<()> {
+    input::answer_input(&rt, &mut rt.stdin())
 }

@@ -10,10 +10,11 @@ mod says;
 mod shown;
 mod words;
 
-ghost use Rattle.std.specs.Prelude.{◌≤◌, length};
+ghost use Rattle.std.specs.Prelude.{◌≤◌, length, IfOk};
 
-use libc::{STDIN_FILENO, STDOUT_FILENO};
 use meaning::{Header, Refusal};
+use std::io;
+use std::io::Read;
 use std::num::wrapping_add_u64;
 use stream::Next;
 
@@ -26,8 +27,8 @@ const OUTPUT: usize = 32768;
 // An array with its length in its type, so that nothing has to count its elements.
 pub(crate) type Out = [u8; OUTPUT];
 
-fn flush(out: &Out, at: usize) {
-    io::write_all(STDOUT_FILENO, question_lines::first(out, at));
+fn flush(rt: &impl Print, out: &Out, at: usize) -> io::Result<()> {
+    rt.write_all(question_lines::first(out, at))
 }
 
 // How many bytes a message took, 0 if none did; and whether a message was refused.
@@ -38,45 +39,59 @@ struct Step {
 }
 
 // A whole message: its bytes are taken.
-fn taken(rest: &[u8], first: u64, count: u64, out: &mut Out, header: Header) -> Step
+fn taken(
+    rt: &impl Print,
+    rest: &[u8],
+    first: u64,
+    count: u64,
+    out: &mut Out,
+    header: Header,
+) -> io::Result<Step>
     requires { header.length.0 ≤ length rest.now }
-    ensures { result.taken ≤ length rest.now }
+    ensures { IfOk result (λ step. step.taken ≤ length rest.now) }
 {
     let length = header.length;
     let headed = says::head(out, 0, count, first);
     let end = says::whole(out, headed, rest, header);
-    flush(out, end);
-    Step {
+    flush(rt, out, end)?;
+    Ok(Step {
         taken: length.0,
         refused: false,
-    }
+    })
 }
 
 // A refused message, shown as far as it states and as it is there: nothing is taken.
-fn refused(rest: &[u8], first: u64, count: u64, out: &mut Out, refusal: Refusal) -> Step
-    ensures { result.taken ≤ 0 }
+fn refused(
+    rt: &impl Print,
+    rest: &[u8],
+    first: u64,
+    count: u64,
+    out: &mut Out,
+    refusal: Refusal,
+) -> io::Result<Step>
+    ensures { IfOk result (λ step. step.taken ≤ 0) }
 {
     let stated = question_lines::first(rest, stream::stated_size(rest));
     let headed = says::head(out, 0, count, first);
     let end = says::refused(out, headed, first, stated, refusal);
-    flush(out, end);
-    Step {
+    flush(rt, out, end)?;
+    Ok(Step {
         taken: 0,
         refused: true,
-    }
+    })
 }
 
 // Prints the message that `rest` begins with, at the byte `first` of the stream.
-fn message(rest: &[u8], first: u64, count: u64, out: &mut Out) -> Step
-    ensures { result.taken ≤ length rest.now }
+fn message(rt: &impl Print, rest: &[u8], first: u64, count: u64, out: &mut Out) -> io::Result<Step>
+    ensures { IfOk result (λ step. step.taken ≤ length rest.now) }
 {
     match stream::next_message(rest) {
-        Next::Whole(header) => taken(rest, first, count, out, header),
-        Next::Cut(_) => Step {
+        Next::Whole(header) => taken(rt, rest, first, count, out, header),
+        Next::Cut(_) => Ok(Step {
             taken: 0,
             refused: false,
-        },
-        Next::Refused(refusal) => refused(rest, first, count, out, refusal),
+        }),
+        Next::Refused(refusal) => refused(rt, rest, first, count, out, refusal),
     }
 }
 
@@ -89,9 +104,16 @@ struct Passed {
 }
 
 // Prints the messages that the first `n` bytes of `input`, at the byte `first` of the stream, begin with.
-fn pass(input: &[u8], n: usize, first: u64, before: u64, out: &mut Out) -> Passed
+fn pass(
+    rt: &impl Print,
+    input: &[u8],
+    n: usize,
+    first: u64,
+    before: u64,
+    out: &mut Out,
+) -> io::Result<Passed>
     requires { n ≤ length input.now }
-    ensures { result.start ≤ n }
+    ensures { IfOk result (λ passed. passed.start ≤ n) }
 {
     let mut start = 0;
     let mut count = before;
@@ -99,7 +121,7 @@ fn pass(input: &[u8], n: usize, first: u64, before: u64, out: &mut Out) -> Passe
     while start < n {
         let place = wrapping_add_u64(first, start as u64);
         let number = wrapping_add_u64(count, 1);
-        let s = message(&input[start..n], place, number, out);
+        let s = message(rt, &input[start..n], place, number, out)?;
         refused = s.refused;
         if s.taken == 0 {
             break;
@@ -107,11 +129,11 @@ fn pass(input: &[u8], n: usize, first: u64, before: u64, out: &mut Out) -> Passe
         start += s.taken;
         count = number;
     }
-    Passed {
+    Ok(Passed {
         start,
         count,
         refused,
-    }
+    })
 }
 
 // The bytes held at the front of the buffer, where they begin in the stream, how many messages came before, and whether to go on.
@@ -124,57 +146,80 @@ struct Stand {
 }
 
 // How many bytes follow in the stream. Nothing says that it ends, so the turns are counted.
-fn drain(input: &mut [u8]) -> u64 {
+fn drain(from: &mut impl Read, input: &mut [u8]) -> io::Result<u64> {
     let mut sum: u64 = 0;
     let mut turns: u64 = 0xffff_ffff_ffff_ffff;
     while 0 < turns {
-        let n = io::read_full(STDIN_FILENO, input);
+        let n = from.read(input)?;
         if n == 0 {
-            return sum;
+            return Ok(sum);
         }
         sum = wrapping_add_u64(sum, n as u64);
         turns -= 1;
     }
-    sum
+    Ok(sum)
 }
 
 // The last lines, where the stream ends after `there` bytes of a message that states `size`.
-fn cut_off(first: u64, count: u64, there: u64, size: u64, out: &mut Out) {
+fn cut_off(
+    rt: &impl Print,
+    first: u64,
+    count: u64,
+    there: u64,
+    size: u64,
+    out: &mut Out,
+) -> io::Result<()> {
     let at = says::cut(out, 0, wrapping_add_u64(count, 1), first, there, size);
     let behind = says::ended(out, at, count, first, there);
-    flush(out, behind);
+    flush(rt, out, behind)
 }
 
 // The last lines, where the stream ends with `rest` of a message.
-fn at_end(rest: &[u8], first: u64, count: u64, out: &mut Out) {
+fn at_end(rt: &impl Print, rest: &[u8], first: u64, count: u64, out: &mut Out) -> io::Result<()> {
     if rest.len() == 0 {
         let end = says::ended(out, 0, count, first, 0);
-        return flush(out, end);
+        return flush(rt, out, end);
     }
     let size = stream::stated_size(rest) as u64;
-    cut_off(first, count, rest.len() as u64, size, out);
+    cut_off(rt, first, count, rest.len() as u64, size, out)
 }
 
 // A read that fails is not taken for the end.
-fn warn(got: isize) {
-    if got < 0 {
-        io::write_all(STDOUT_FILENO, b"READING FAILED: more may follow\n");
+fn warn(rt: &impl Print, failed: bool) -> io::Result<()> {
+    if failed {
+        rt.write_all(b"READING FAILED: more may follow\n")?;
     }
+    Ok(())
 }
 
 // The last line, where the program stops with `left` bytes of the stream from the byte `first` on.
-fn stop(first: u64, count: u64, left: u64, out: &mut Out, at: usize) {
+fn stop(
+    rt: &impl Print,
+    first: u64,
+    count: u64,
+    left: u64,
+    out: &mut Out,
+    at: usize,
+) -> io::Result<()> {
     let behind = says::stopped(out, at, count, first, left);
-    flush(out, behind);
+    flush(rt, out, behind)
 }
 
 // The last lines at a message that states more than the buffer of `room` bytes holds. It is too large only if the stream has all of it.
-fn beyond(first: u64, count: u64, size: u64, left: u64, room: u64, out: &mut Out) {
+fn beyond(
+    rt: &impl Print,
+    first: u64,
+    count: u64,
+    size: u64,
+    left: u64,
+    room: u64,
+    out: &mut Out,
+) -> io::Result<()> {
     if left < size {
-        return cut_off(first, count, left, size, out);
+        return cut_off(rt, first, count, left, size, out);
     }
     let at = says::too_large(out, 0, wrapping_add_u64(count, 1), first, size, room);
-    stop(first, count, left, out, at);
+    stop(rt, first, count, left, out, at)
 }
 
 fn finished(first: u64, count: u64) -> Stand
@@ -190,6 +235,8 @@ fn finished(first: u64, count: u64) -> Stand
 
 // The last lines at a message that was refused, or is too large, `held` bytes of which were read; the rest of the stream is counted.
 fn halt(
+    rt: &impl Print,
+    from: &mut impl Read,
     refused: bool,
     first: u64,
     count: u64,
@@ -197,13 +244,13 @@ fn halt(
     size: usize,
     input: &mut [u8],
     out: &mut Out,
-) {
+) -> io::Result<()> {
     let room = input.len() as u64;
-    let left = wrapping_add_u64(held as u64, drain(input));
+    let left = wrapping_add_u64(held as u64, drain(from, input)?);
     if refused {
-        stop(first, count, left, out, 0);
+        stop(rt, first, count, left, out, 0)
     } else {
-        beyond(first, count, size as u64, left, room, out);
+        beyond(rt, first, count, size as u64, left, room, out)
     }
 }
 
@@ -222,9 +269,17 @@ fn is_last(refused: bool, size: usize, room: usize) -> bool {
 }
 
 // What follows the messages among the first `n` bytes of the buffer: a refusal, a message that is too large, or the rest of one that goes on.
-fn after(passed: Passed, first: u64, n: usize, input: &mut [u8], out: &mut Out) -> Stand
+fn after(
+    rt: &impl Print,
+    from: &mut impl Read,
+    passed: Passed,
+    first: u64,
+    n: usize,
+    input: &mut [u8],
+    out: &mut Out,
+) -> io::Result<Stand>
     requires { (passed.start ≤ n) × (n ≤ length input.old) }
-    ensures { result.held ≤ length input.new }
+    ensures { IfOk result (λ stand. stand.held ≤ length input.new) }
 {
     let start = passed.start;
     let count = passed.count;
@@ -232,51 +287,80 @@ fn after(passed: Passed, first: u64, n: usize, input: &mut [u8], out: &mut Out) 
     let place = wrapping_add_u64(first, start as u64);
     let size = stream::stated_size(&input[start..n]);
     if is_last(passed.refused, size, input.len()) {
-        halt(passed.refused, place, count, held, size, input, out);
-        return finished(place, count);
+        halt(
+            rt,
+            from,
+            passed.refused,
+            place,
+            count,
+            held,
+            size,
+            input,
+            out,
+        )?;
+        return Ok(finished(place, count));
     }
     keep(input, start, n);
-    Stand {
+    Ok(Stand {
         held,
         first: place,
         count,
         more: true,
-    }
+    })
 }
 
 // The stream ends, or a read fails, with `rest` of a message.
-fn over(rest: &[u8], got: isize, first: u64, count: u64, out: &mut Out) -> Stand
-    ensures { result.held ≤ 0 }
+fn over(
+    rt: &impl Print,
+    rest: &[u8],
+    failed: bool,
+    first: u64,
+    count: u64,
+    out: &mut Out,
+) -> io::Result<Stand>
+    ensures { IfOk result (λ stand. stand.held ≤ 0) }
 {
-    at_end(rest, first, count, out);
-    warn(got);
-    finished(first, count)
+    at_end(rt, rest, first, count, out)?;
+    warn(rt, failed)?;
+    Ok(finished(first, count))
 }
 
-fn go_on(n: usize, first: u64, count: u64, input: &mut [u8], out: &mut Out) -> Stand
+fn go_on(
+    rt: &impl Print,
+    from: &mut impl Read,
+    n: usize,
+    first: u64,
+    count: u64,
+    input: &mut [u8],
+    out: &mut Out,
+) -> io::Result<Stand>
     requires { n ≤ length input.old }
-    ensures { result.held ≤ length input.new }
+    ensures { IfOk result (λ stand. stand.held ≤ length input.new) }
 {
-    let passed = pass(input, n, first, count, out);
-    after(passed, first, n, input, out)
+    let passed = pass(rt, input, n, first, count, out)?;
+    after(rt, from, passed, first, n, input, out)
 }
 
 // Reads once, so that messages are shown as they come, and prints what is whole by then.
-fn turn(last: Stand, input: &mut [u8], out: &mut Out) -> Stand
+fn turn(
+    rt: &impl Print,
+    from: &mut impl Read,
+    last: Stand,
+    input: &mut [u8],
+    out: &mut Out,
+) -> io::Result<Stand>
     requires { last.held ≤ length input.old }
-    ensures { result.held ≤ length input.new }
+    ensures { IfOk result (λ stand. stand.held ≤ length input.new) }
 {
     let held = last.held;
-    let got = libc::read(STDIN_FILENO, &mut input[held..]);
-    let n = held + io::count(got, &input[held..]);
-    if n == held {
-        let front = 0;
-        return over(&input[front..held], got, last.first, last.count, out);
+    match from.read(&mut input[held..]) {
+        Ok(0) => over(rt, &input[..held], false, last.first, last.count, out),
+        Ok(got) => go_on(rt, from, held + got, last.first, last.count, input, out),
+        Err(_) => over(rt, &input[..held], true, last.first, last.count, out),
     }
-    go_on(n, last.first, last.count, input, out)
 }
 
-fn run(input: &mut [u8], out: &mut Out) {
+fn run(rt: &impl Print, from: &mut impl Read, input: &mut [u8], out: &mut Out) -> io::Result<()> {
     let mut stand = Stand {
         held: 0,
         first: 0,
@@ -285,21 +369,27 @@ fn run(input: &mut [u8], out: &mut Out) {
     };
     let mut turns: u64 = 0xffff_ffff_ffff_ffff;
     while 0 < turns {
-        stand = turn(stand, input, out);
+        stand = turn(rt, from, stand, input, out)?;
         if stand.more {
             turns -= 1;
         } else {
-            return;
+            return Ok(());
         }
     }
+    Ok(())
 }
 
-fn with_buffers(input: &mut [u8; INPUT], out: &mut Out) {
-    run(input, out);
+fn with_buffers(
+    rt: &impl Print,
+    from: &mut impl Read,
+    input: &mut [u8; INPUT],
+    out: &mut Out,
+) -> io::Result<()> {
+    run(rt, from, input, out)
 }
 
-fn main() {
+fn main(rt: HostRuntime) -> io::Result<()> {
     let mut input = [0u8; INPUT];
     let mut out = [0u8; OUTPUT];
-    with_buffers(&mut input, &mut out);
+    with_buffers(&rt, &mut rt.stdin(), &mut input, &mut out)
 }

@@ -6,14 +6,14 @@ use std::num::wrapping_add_u64;
 // The line of a text that has so many lines before it, without its line end; nothing where the text has no such line.
 pub(crate) fn line(text: &[u8], before: u64) -> &[u8] {
     let mut start = 0;
-    let mut end = bytes::scan::find(text, 0, text.len(), b'\n');
+    let mut end = question_lines::find(text, 0, text.len(), b'\n');
     let mut left = before;
     while 0 < left {
         if end == text.len() {
             return &text[end..];
         }
         start = end + 1;
-        end = bytes::scan::find(text, start, text.len(), b'\n');
+        end = question_lines::find(text, start, text.len(), b'\n');
         left -= 1;
     }
     &text[start..end]

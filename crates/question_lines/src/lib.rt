@@ -1,11 +1,15 @@
 // What programs do with their input: a line of text taken apart into words, numbers and bytes in hexadecimal, and the parts of a buffer.
 #![tactic(auto)]
 
-ghost use Rattle.std.specs.Prelude.{◌≡◌, true, cond, ◌+◌, ◌*◌, ◌^◌, ◌≤◌, ◌<◌, ltb, length, drop, take};
+ghost use Rattle.std.specs.Prelude.{◌≡◌, true, cond, ◌+◌, ◌*◌, ◌^◌, ◌≤◌, ◌<◌, ltb, length, drop, take, IfOk};
+ghost use Rattle.std.specs.Io.KnownBytes.{Consumes, IsAtEnd};
 ghost use Rattle.std.specs.List.{between};
 ghost use Rattle.std.proofs.lemmas.List.Edits.{sets};
 ghost use Rattle.question_lines.specs.Digits.{digit_of, all_digits, value_from, pairs};
 ghost use Rattle.question_lines.specs.Words.{index_of, word_end, occurrences, number_of, taken_of, moved_down};
+
+use std::io;
+use std::io::Read;
 
 #[derive(Clone, Copy)]
 pub enum Number {
@@ -18,6 +22,23 @@ pub enum Number {
 pub enum Taken {
     Bytes(usize),
     Bad,
+}
+
+// Reads until the buffer is full or the input ends, and says how many bytes it put at the front.
+pub fn read_full<R: Read>(reader: &mut R, buf: &mut [u8]) -> io::Result<usize>
+    ensures bound { IfOk result (λ n. n ≤ length buf.new) }
+    ensures bytes { IfOk result (λ n. Consumes (R.remaining reader.old) (R.remaining reader.new) (take n buf.new)) }
+    ensures end { IfOk result (λ n. n < length buf.new → IsAtEnd (R.remaining reader.new)) }
+{
+    let mut done = 0;
+    while done < buf.len() {
+        let n = reader.read(&mut buf[done..])?;
+        if n == 0 {
+            break;
+        }
+        done += n;
+    }
+    Ok(done)
 }
 
 // The first place from `from` on at which `b` stands, if that is before `to`; else `to`.

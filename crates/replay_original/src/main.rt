@@ -7,9 +7,10 @@
 
 ghost use Rattle.std.specs.Prelude.{◌≤◌, length};
 
-use libc::{STDIN_FILENO, STDOUT_FILENO};
 use meaning::{Checked, Counted, Order, Place, Refusal};
 use question_lines::{Number, Taken};
+use std::io;
+use std::io::Read;
 use unmarshal::check_message;
 
 const INPUT: usize = 393216;
@@ -164,36 +165,49 @@ fn is_same(line: &[u8], sig: &mut [u8], buf: &mut [u8]) -> bool {
     }
 }
 
-fn replay_line(line: &[u8], sig: &mut [u8], buf: &mut [u8]) {
+fn replay_line(rt: &impl Print, line: &[u8], sig: &mut [u8], buf: &mut [u8]) -> io::Result<()> {
     if is_same(line, sig, buf) {
-        io::write_all(STDOUT_FILENO, b"same\n");
+        rt.write_all(b"same\n")
     } else {
-        io::write_all(STDOUT_FILENO, b"differs\n");
+        rt.write_all(b"differs\n")
     }
 }
 
 // Each line that ends among the first `n` bytes.
-fn replay_lines(n: usize, input: &[u8], sig: &mut [u8], buf: &mut [u8])
+fn replay_lines(
+    rt: &impl Print,
+    n: usize,
+    input: &[u8],
+    sig: &mut [u8],
+    buf: &mut [u8],
+) -> io::Result<()>
     requires { n ≤ length input.now }
 {
     let mut start = 0;
-    let mut end = bytes::scan::find(input, 0, n, b'\n');
+    let mut end = question_lines::find(input, 0, n, b'\n');
     while end < n {
-        replay_line(&input[start..end], sig, buf);
+        replay_line(rt, &input[start..end], sig, buf)?;
         start = end + 1;
-        end = bytes::scan::find(input, start, n, b'\n');
+        end = question_lines::find(input, start, n, b'\n');
     }
+    Ok(())
 }
 
 // Arrays whose lengths are in their types, so that nothing has to count their elements.
-fn replay(input: &mut [u8; INPUT], sig: &mut [u8; BYTES], buf: &mut [u8; BYTES]) {
-    let n = io::read_full(STDIN_FILENO, input);
-    replay_lines(n, input, sig, buf);
+fn replay(
+    rt: &impl Print,
+    from: &mut impl Read,
+    input: &mut [u8; INPUT],
+    sig: &mut [u8; BYTES],
+    buf: &mut [u8; BYTES],
+) -> io::Result<()> {
+    let n = question_lines::read_full(from, input)?;
+    replay_lines(rt, n, input, sig, buf)
 }
 
-fn main() {
+fn main(rt: HostRuntime) -> io::Result<()> {
     let mut input = [0u8; INPUT];
     let mut sig = [0u8; BYTES];
     let mut buf = [0u8; BYTES];
-    replay(&mut input, &mut sig, &mut buf);
+    replay(&rt, &mut rt.stdin(), &mut input, &mut sig, &mut buf)
 }
