@@ -1,4 +1,4 @@
-// Links the proved library (from the folder MILLETTIE_DIR, or else where `rt staticlib millettie` leaves it) and, where it is installed for the
+// Links the proved library (from the folder MILLETTIE_DIR, or else where `tools/archive` leaves it) and, where it is installed for the
 // machine that is built for, libdbus.
 use std::path::{Path, PathBuf};
 use std::process::Command;

@@ -1,4 +1,4 @@
-// Links the static library that `rt staticlib millettie` writes: from the folder that MILLETTIE_DIR names, or else from beside this file, or
+// Links the static library that `tools/archive` writes: from the folder that MILLETTIE_DIR names, or else from beside this file, or
 // else from where that command leaves it.
 use std::env;
 use std::path::PathBuf;
@@ -27,7 +27,7 @@ fn main() {
             println!("cargo:rustc-link-lib=static=millettie");
         }
         None => stop(&format!(
-            "no {} in {:?}. Make it by `rt staticlib millettie` in the project's repository, then copy it there or set MILLETTIE_DIR to its folder",
+            "no {} in {:?}. Make it by `tools/archive` in the project's repository, then copy it there or set MILLETTIE_DIR to its folder",
             ARCHIVE, folders
         )),
     }

@@ -3,14 +3,9 @@
 # runs a program; nothing on x86-64).
 #
 # On Arm, an x86-64 Rust and C library come out of Debian's packages, unpacked in target/cross; nothing is installed. What is built with them
-# is linked statically and run by the toolchain's emulator. That part never ran on an Arm machine. It was tried on x86-64 with the
-# toolchain's emulator for Arm, itself run by Debian's emulator of Arm.
-mkdir -p target
-built() { # a command of rt that proves and builds
-    echo "rt $*: takes some minutes the first time" >&2
-    rt "$@" >target/built.log 2>&1 || { tail -20 target/built.log >&2; exit 1; }
-}
-built staticlib millettie
+# is linked statically by the machine's own clang and run by its emulator, qemu-x86_64, both on PATH. That part never ran on an Arm machine,
+# and the toolchain of today has no part for one: there rt itself, too, is a program for the emulator.
+tools/archive
 
 triple=x86_64-unknown-linux-gnu
 export CARGO_BUILD_TARGET=$triple CARGO_TARGET_DIR="$PWD/target/cargo" CARGO_NET_OFFLINE=true
@@ -48,13 +43,13 @@ END
 }
 
 # A compiler of C and of Rust that make static x86-64 programs. Rust's start-up asks for the main thread's stack, for which the C library
-# reads /proc/self/maps, at which the toolchain's emulator (8.2.2) crashes. Rust goes on without an answer, so the programs get none.
+# reads /proc/self/maps, at which one emulator (8.2.2) crashed. Rust goes on without an answer, so the programs get none.
 compilers() {
     libraries=$(echo "$cross"/host/usr/lib/*-linux-gnu)
     printf '#!/bin/sh\nLD_LIBRARY_PATH=%s exec %s "$@"\n' "$libraries" "$cross/host/usr/bin/rustc" >"$cross/rustc"
-    # the toolchain's clang has no headers of its own, such as stdbool.h
+    # headers such as stdbool.h are those of the unpacked C compiler
     printf '#!/bin/sh\nexec %s --target=x86_64-linux-gnu --sysroot=%s -isystem %s -fuse-ld=lld -Wno-unused-command-line-argument "$@"\n' \
-        "$tools/bin/clang" "$cross/x86" "$(echo "$cross"/x86/usr/lib/gcc/x86_64-linux-gnu/*/include)" >"$cross/cc"
+        "$(command -v clang)" "$cross/x86" "$(echo "$cross"/x86/usr/lib/gcc/x86_64-linux-gnu/*/include)" >"$cross/cc"
     chmod +x "$cross/rustc" "$cross/cc"
     echo 'int pthread_getattr_np(void *thread, void *attributes) { (void)thread; (void)attributes; return 38; }' >"$cross/no_maps.c"
     "$cross/cc" -c -o "$cross/no_maps.o" "$cross/no_maps.c"
@@ -62,11 +57,10 @@ compilers() {
 }
 
 if [ "$(uname -m)" != x86_64 ]; then
-    kit=$(cd "$(dirname "$(rt doc)")/.." && pwd -P)
-    tools=$kit/on/$(uname -m)/toolchain
     cross=$PWD/target/cross
+    for tool in clang ld.lld qemu-x86_64; do command -v $tool >/dev/null || { echo "no $tool (apt-get install clang lld qemu-user)" >&2; exit 1; }; done
     [ -e "$cross/ready" ] || { fetch && compilers; } || { echo "no x86-64 Rust to be had: $cross/log" >&2; exit 1; }
-    RUN=$tools/bin/qemu-x86_64 CC="$cross/cc -static"
+    RUN=$(command -v qemu-x86_64) CC="$cross/cc -static"
     export RUSTC="$cross/rustc" RUSTFLAGS="-C target-feature=+crt-static -C link-arg=$cross/no_maps.o" RUST_TEST_THREADS=1
     export CARGO_TARGET_X86_64_UNKNOWN_LINUX_GNU_LINKER="$cross/cc" CARGO_TARGET_X86_64_UNKNOWN_LINUX_GNU_RUNNER="$RUN"
 fi

@@ -1,8 +1,5 @@
-//! The proved library: the functions of include/millettie.h that are measured.
-//!
-//! They are declared with the address of their answer as first argument. On x86-64 that is the very call which the header declares; in the module
-//! that is compiled for Arm there is no other. The bindings in rust/ would put a call of their own between.
-use std::mem::MaybeUninit;
+//! The proved library: the functions of include/millettie.h that are measured, as the header declares them. The bindings in rust/ would put a call
+//! of their own between.
 
 #[repr(C)]
 struct Answer {
@@ -19,23 +16,16 @@ struct Header {
 
 #[rustfmt::skip]
 extern "C" {
-    fn mt_check_value(answer: *mut Answer, big: bool, offset: usize, buf: *const u8, buf_len: usize, sig: *const u8, sig_len: usize) -> *mut Answer;
-    fn mt_read_header(header: *mut Header, buf: *const u8, buf_len: usize) -> *mut Header;
-    fn mt_write_padding(answer: *mut Answer, buf: *mut u8, buf_len: usize, place: usize, alignment: usize) -> *mut Answer;
-    fn mt_write_u16(answer: *mut Answer, buf: *mut u8, buf_len: usize, place: usize, value: u16, big: bool) -> *mut Answer;
-    fn mt_write_u32(answer: *mut Answer, buf: *mut u8, buf_len: usize, place: usize, value: u32, big: bool) -> *mut Answer;
-    fn mt_write_u64(answer: *mut Answer, buf: *mut u8, buf_len: usize, place: usize, value: u64, big: bool) -> *mut Answer;
-    fn mt_write_string(answer: *mut Answer, buf: *mut u8, buf_len: usize, place: usize, text: *const u8, text_len: usize, big: bool) -> *mut Answer;
+    fn mt_check_value(big: bool, offset: usize, buf: *const u8, buf_len: usize, sig: *const u8, sig_len: usize) -> Answer;
+    fn mt_read_header(buf: *const u8, buf_len: usize) -> Header;
+    fn mt_write_padding(buf: *mut u8, buf_len: usize, place: usize, alignment: usize) -> Answer;
+    fn mt_write_u16(buf: *mut u8, buf_len: usize, place: usize, value: u16, big: bool) -> Answer;
+    fn mt_write_u32(buf: *mut u8, buf_len: usize, place: usize, value: u32, big: bool) -> Answer;
+    fn mt_write_u64(buf: *mut u8, buf_len: usize, place: usize, value: u64, big: bool) -> Answer;
+    fn mt_write_string(buf: *mut u8, buf_len: usize, place: usize, text: *const u8, text_len: usize, big: bool) -> Answer;
 }
 
 // The length in the answer; nothing here is ever refused.
-fn accepted(call: impl FnOnce(*mut Answer)) -> usize {
-    let mut answer = MaybeUninit::uninit();
-    call(answer.as_mut_ptr());
-    // Safety: the call filled it.
-    length(unsafe { &answer.assume_init() })
-}
-
 fn length(answer: &Answer) -> usize {
     assert!(
         answer.number == 0,
@@ -48,28 +38,15 @@ fn length(answer: &Answer) -> usize {
 
 /// Checks the one value; answers its bytes.
 pub fn check_value(buf: &[u8], sig: &[u8]) -> usize {
-    // Safety: it reads the two slices and writes the answer.
-    accepted(|answer| unsafe {
-        mt_check_value(
-            answer,
-            false,
-            0,
-            buf.as_ptr(),
-            buf.len(),
-            sig.as_ptr(),
-            sig.len(),
-        );
-    })
+    // Safety: it reads the two slices.
+    length(&unsafe { mt_check_value(false, 0, buf.as_ptr(), buf.len(), sig.as_ptr(), sig.len()) })
 }
 
 /// Checks the message and reads its header; answers its bytes.
 pub fn read_header(buf: &[u8]) -> usize {
-    let mut header = MaybeUninit::<Header>::uninit();
-    // Safety: it reads the slice and fills the header, which has the size of the C struct.
-    unsafe {
-        mt_read_header(header.as_mut_ptr(), buf.as_ptr(), buf.len());
-        length(&std::hint::black_box(header.assume_init_ref()).answer)
-    }
+    // Safety: it reads the slice; the header has the size of the C struct.
+    let header = unsafe { mt_read_header(buf.as_ptr(), buf.len()) };
+    length(&std::hint::black_box(&header).answer)
 }
 
 /// A buffer that is written from its start.
@@ -79,45 +56,36 @@ pub struct Room {
 }
 
 impl Room {
-    fn write(&mut self, call: impl FnOnce(*mut Answer, *mut u8, usize, usize)) {
-        self.place +=
-            accepted(|answer| call(answer, self.buf.as_mut_ptr(), self.buf.len(), self.place));
+    fn write(&mut self, call: impl FnOnce(*mut u8, usize, usize) -> Answer) {
+        self.place += length(&call(self.buf.as_mut_ptr(), self.buf.len(), self.place));
     }
 }
 
-// Safety, of each: it writes into the buffer, which does not overlap the text, and into the answer.
+// Safety, of each: it writes into the buffer, which does not overlap the text.
 impl crate::written::Writer for Room {
     fn clear(&mut self) {
         self.place = 0;
     }
 
     fn pad(&mut self, align: usize) {
-        self.write(|answer, buf, n, place| unsafe {
-            mt_write_padding(answer, buf, n, place, align);
-        })
+        self.write(|buf, n, place| unsafe { mt_write_padding(buf, n, place, align) })
     }
 
     fn u16(&mut self, value: u16) {
-        self.write(|answer, buf, n, place| unsafe {
-            mt_write_u16(answer, buf, n, place, value, false);
-        })
+        self.write(|buf, n, place| unsafe { mt_write_u16(buf, n, place, value, false) })
     }
 
     fn u32(&mut self, value: u32) {
-        self.write(|answer, buf, n, place| unsafe {
-            mt_write_u32(answer, buf, n, place, value, false);
-        })
+        self.write(|buf, n, place| unsafe { mt_write_u32(buf, n, place, value, false) })
     }
 
     fn u64(&mut self, value: u64) {
-        self.write(|answer, buf, n, place| unsafe {
-            mt_write_u64(answer, buf, n, place, value, false);
-        })
+        self.write(|buf, n, place| unsafe { mt_write_u64(buf, n, place, value, false) })
     }
 
     fn string(&mut self, text: &str) {
-        self.write(|answer, buf, n, place| unsafe {
-            mt_write_string(answer, buf, n, place, text.as_ptr(), text.len(), false);
+        self.write(|buf, n, place| unsafe {
+            mt_write_string(buf, n, place, text.as_ptr(), text.len(), false)
         })
     }
 
