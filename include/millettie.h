@@ -1,4 +1,4 @@
-/* Millettie: the wire core of D-Bus, proved. Link libmillettie.a (`rt staticlib millettie`).
+/* Millettie: the wire core of D-Bus, proved. Link libmillettie.a (`tools/archive` makes it).
 
    No function stops for any input, none keeps a pointer, and none allocates. A slice is a pointer and a length; with length 0 the pointer is
    not read. Readers write nothing. A buffer to write into must not overlap the text that is written. How much stack the calls need is said in

@@ -2,7 +2,9 @@
 """Tries the hint that `inspect` gives beside position 0: messages with one fault in the header, each in both byte orders, and for each the
 refusal, the hint and the byte in brackets, worked out here from where the fields were laid. Says nothing where all are as written.
 
-Each message follows one that is whole, so that places in the message and in the stream differ. `.ci/run` calls it after rt ci.
+Each message follows one that is whole, so that places in the message and in the stream differ.
+
+usage: samples/hints.py [PROGRAM]      PROGRAM is `inspect`, built: .ci/run gives the one that rt ci has just built and run. Else tools/program builds it.
 """
 import os
 import re
@@ -13,6 +15,7 @@ import sys
 sys.dont_write_bytecode = True
 from make import CALL, ERROR, HERE, MEMBER, PATH, REPLY, SIGNAL, message
 
+INSPECT = sys.argv[1:2] or [os.path.join(HERE, "../tools/program"), "inspect"]
 BEFORE = message("l", CALL, 1, [(PATH, "/a"), (MEMBER, "M")])
 
 
@@ -105,7 +108,7 @@ def tables(mark):
 
 def said(data):
     """The refusal's number, the hint, and the place in the message of the byte in brackets, as `inspect` says them."""
-    out = subprocess.run([os.path.join(HERE, "../tools/program"), "inspect"], input=BEFORE + data, stdout=subprocess.PIPE, check=True).stdout.decode()
+    out = subprocess.run(INSPECT, input=BEFORE + data, stdout=subprocess.PIPE, check=True).stdout.decode()
     number = re.search(r"^    refusal (\d+),", out, re.M)
     hint = re.search(r"^    hint, not part of the proved answer: (.*)$", out, re.M)
     row = re.search(r"^ *(\d+) +\d+ (( [0-9a-f]{2})*)\[", out, re.M)
