@@ -1,17 +1,16 @@
 -- A number below zero, as the code takes its distance from zero, and how it is shown; a wider signed type holds it; and a double that equals itself is no NaN.
-use Prim.Native.Nat.{ℕ, zero, suc, ◌+◌, ◌-◌, ◌^◌, ◌≤◌, ◌<◌}
+use Prim.Native.Nat.{ℕ, suc, ◌+◌, ◌^◌, ◌<◌}
 use native.Mathlib.Omega.{arith}
 use mathlib.Core.Bool.{Bool, true, false, not, cond}
-use mathlib.Core.Path.{◌≡◌, refl, sym, ap, ◌∙◌}
-use lib.Dec.{T, leb, ltb}
+use mathlib.Core.Path.{◌≡◌, refl, ap, ◌∙◌}
+use lib.Dec.{T, leb}
 use lib.IntN.{ℤ, pos, negsuc, ◌-ℤ◌, nat_abs}
-use lib.Signed.{mag, lt_z, non_neg}
+use lib.Signed.{lt_z, non_neg}
 use lib.Ieee.{Float, nan, inf, fin, is_nan, eq}
-use mir.Syntax.{Width, w16, w32, w64}
+use mir.Syntax.{Width, w64}
 use mir.Val.{Fits, SFits, to_z, of_z, hbits, bool_byte}
 use mir.Facts.{to_z-of_z, sfits_widen}
 use borrow.Author.Tests.{ltb-true, le-ltb}
-use Rattle.answer_text.specs.declared.fixed_text.Shown.{Shown}
 use Rattle.answer_text.specs.declared.fixed_text.Shown.TheVariants.{Plain, Minus}
 use Rattle.answer_text.specs.Values.{signed_shown}
 
