@@ -126,12 +126,13 @@ def faulty_header():
     return whole[: text - 4] + struct.pack(">I", 3) + whole[text:]
 
 
-def write(name, messages):
-    # faulty.dbus is written through the link, to the file that the gate reads
-    with open(os.path.join(HERE, name), "wb") as file:
+def write(path, messages):
+    with open(os.path.join(HERE, path), "wb") as file:
         file.write(b"".join(messages))
 
 
 if __name__ == "__main__":
-    write("faulty.dbus", conversation() + kernings() + [faulty(), kern_signal(6, [(87, 97, -20)])])
+    # the same bytes for the gate, which takes no link
+    for path in "faulty.dbus", "../crates/inspect/stdin":
+        write(path, conversation() + kernings() + [faulty(), kern_signal(6, [(87, 97, -20)])])
     write("header.dbus", conversation()[:2] + [faulty_header()] + conversation()[3:])

@@ -157,7 +157,7 @@ fn block(
 
 fn turn(
     rt: &impl Print,
-    from: &mut impl Read,
+    reader: &mut impl Read,
     last: Rest,
     input: &mut [u8],
     text: &mut Spelled,
@@ -168,7 +168,7 @@ fn turn(
     ensures { IfOk result (λ rest. rest.held ≤ length input.new) }
 {
     let held = last.held;
-    let n = held + question_lines::read_full(from, &mut input[held..])?;
+    let n = held + question_lines::read_full(reader, &mut input[held..])?;
     if last.skipping {
         Ok(skip(n, input))
     } else {
@@ -179,7 +179,7 @@ fn turn(
 // Nothing says that the input ends, so the turns are counted.
 fn run(
     rt: &impl Print,
-    from: &mut impl Read,
+    reader: &mut impl Read,
     input: &mut [u8],
     text: &mut Spelled,
     buf: &mut Spelled,
@@ -192,7 +192,7 @@ fn run(
     };
     let mut turns: u64 = 0xffff_ffff_ffff_ffff;
     while turns > 0 {
-        left = turn(rt, from, left, input, text, buf, out)?;
+        left = turn(rt, reader, left, input, text, buf, out)?;
         if left.more {
             turns -= 1;
         } else {
@@ -204,20 +204,20 @@ fn run(
 
 fn with_buffers(
     rt: &impl Print,
-    from: &mut impl Read,
+    reader: &mut impl Read,
     input: &mut [u8; INPUT],
     text: &mut Spelled,
     buf: &mut Spelled,
     out: &mut Out,
 ) -> io::Result<()> {
-    run(rt, from, input, text, buf, out)
+    run(rt, reader, input, text, buf, out)
 }
 
 // All of the input, to its end.
-pub(crate) fn answer_input(rt: &impl Print, from: &mut impl Read) -> io::Result<()> {
+pub(crate) fn answer_input(rt: &impl Print, reader: &mut impl Read) -> io::Result<()> {
     let mut input = [0u8; INPUT];
     let mut text = [0u8; BYTES];
     let mut buf = [0u8; BYTES];
     let mut out = [0u8; OUTPUT];
-    with_buffers(rt, from, &mut input, &mut text, &mut buf, &mut out)
+    with_buffers(rt, reader, &mut input, &mut text, &mut buf, &mut out)
 }

@@ -146,11 +146,11 @@ struct Stand {
 }
 
 // How many bytes follow in the stream. Nothing says that it ends, so the turns are counted.
-fn drain(from: &mut impl Read, input: &mut [u8]) -> io::Result<u64> {
+fn drain(reader: &mut impl Read, input: &mut [u8]) -> io::Result<u64> {
     let mut sum: u64 = 0;
     let mut turns: u64 = 0xffff_ffff_ffff_ffff;
     while 0 < turns {
-        let n = from.read(input)?;
+        let n = reader.read(input)?;
         if n == 0 {
             return Ok(sum);
         }
@@ -236,7 +236,7 @@ fn finished(first: u64, count: u64) -> Stand
 // The last lines at a message that was refused, or is too large, `held` bytes of which were read; the rest of the stream is counted.
 fn halt(
     rt: &impl Print,
-    from: &mut impl Read,
+    reader: &mut impl Read,
     refused: bool,
     first: u64,
     count: u64,
@@ -246,7 +246,7 @@ fn halt(
     out: &mut Out,
 ) -> io::Result<()> {
     let room = input.len() as u64;
-    let left = wrapping_add_u64(held as u64, drain(from, input)?);
+    let left = wrapping_add_u64(held as u64, drain(reader, input)?);
     if refused {
         stop(rt, first, count, left, out, 0)
     } else {
@@ -271,7 +271,7 @@ fn is_last(refused: bool, size: usize, room: usize) -> bool {
 // What follows the messages among the first `n` bytes of the buffer: a refusal, a message that is too large, or the rest of one that goes on.
 fn after(
     rt: &impl Print,
-    from: &mut impl Read,
+    reader: &mut impl Read,
     passed: Passed,
     first: u64,
     n: usize,
@@ -289,7 +289,7 @@ fn after(
     if is_last(passed.refused, size, input.len()) {
         halt(
             rt,
-            from,
+            reader,
             passed.refused,
             place,
             count,
@@ -327,7 +327,7 @@ fn over(
 
 fn go_on(
     rt: &impl Print,
-    from: &mut impl Read,
+    reader: &mut impl Read,
     n: usize,
     first: u64,
     count: u64,
@@ -338,13 +338,13 @@ fn go_on(
     ensures { IfOk result (λ stand. stand.held ≤ length input.new) }
 {
     let passed = pass(rt, input, n, first, count, out)?;
-    after(rt, from, passed, first, n, input, out)
+    after(rt, reader, passed, first, n, input, out)
 }
 
 // Reads once, so that messages are shown as they come, and prints what is whole by then.
 fn turn(
     rt: &impl Print,
-    from: &mut impl Read,
+    reader: &mut impl Read,
     last: Stand,
     input: &mut [u8],
     out: &mut Out,
@@ -353,14 +353,14 @@ fn turn(
     ensures { IfOk result (λ stand. stand.held ≤ length input.new) }
 {
     let held = last.held;
-    match from.read(&mut input[held..]) {
+    match reader.read(&mut input[held..]) {
         Ok(0) => over(rt, &input[..held], false, last.first, last.count, out),
-        Ok(got) => go_on(rt, from, held + got, last.first, last.count, input, out),
+        Ok(got) => go_on(rt, reader, held + got, last.first, last.count, input, out),
         Err(_) => over(rt, &input[..held], true, last.first, last.count, out),
     }
 }
 
-fn run(rt: &impl Print, from: &mut impl Read, input: &mut [u8], out: &mut Out) -> io::Result<()> {
+fn run(rt: &impl Print, reader: &mut impl Read, input: &mut [u8], out: &mut Out) -> io::Result<()> {
     let mut stand = Stand {
         held: 0,
         first: 0,
@@ -369,7 +369,7 @@ fn run(rt: &impl Print, from: &mut impl Read, input: &mut [u8], out: &mut Out) -
     };
     let mut turns: u64 = 0xffff_ffff_ffff_ffff;
     while 0 < turns {
-        stand = turn(rt, from, stand, input, out)?;
+        stand = turn(rt, reader, stand, input, out)?;
         if stand.more {
             turns -= 1;
         } else {
@@ -381,11 +381,11 @@ fn run(rt: &impl Print, from: &mut impl Read, input: &mut [u8], out: &mut Out) -
 
 fn with_buffers(
     rt: &impl Print,
-    from: &mut impl Read,
+    reader: &mut impl Read,
     input: &mut [u8; INPUT],
     out: &mut Out,
 ) -> io::Result<()> {
-    run(rt, from, input, out)
+    run(rt, reader, input, out)
 }
 
 fn main(rt: HostRuntime) -> io::Result<()> {

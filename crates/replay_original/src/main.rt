@@ -196,12 +196,12 @@ fn replay_lines(
 // Arrays whose lengths are in their types, so that nothing has to count their elements.
 fn replay(
     rt: &impl Print,
-    from: &mut impl Read,
+    reader: &mut impl Read,
     input: &mut [u8; INPUT],
     sig: &mut [u8; BYTES],
     buf: &mut [u8; BYTES],
 ) -> io::Result<()> {
-    let n = question_lines::read_full(from, input)?;
+    let n = question_lines::read_full(reader, input)?;
     replay_lines(rt, n, input, sig, buf)
 }
 
