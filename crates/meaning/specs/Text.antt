@@ -27,7 +27,7 @@ All P (x ∷ xs) = P x × All P xs
 unfoldable pub IsUtf8 : List ℕ → Type 0
 IsUtf8 s = (xs : List ℕ) × All Scalar xs × (s ≡ encode_all xs)
 
--- "Path: `/`, or one or more of `/` followed by `A-Z a_z 0-9 _` (at least one); no slash at the end"
+-- "Path: `/`, or one or more of `/` followed by `A-Z a-z 0-9 _` (at least one); no slash at the end"
 abbrev pub between : ℕ → ℕ → ℕ → Bool
 between lo hi c = leb lo c && leb c hi
 

@@ -72,8 +72,7 @@ pub fn tail(s: &[u8]) -> &[u8]
     ensures { result.now ≡ drop (word_end s.now + 1) s.now }
 {
     let gap = find(s, 0, s.len(), b' ');
-    let stop = s.len();
-    if gap < stop {
+    if gap < s.len() {
         let next = gap + 1;
         &s[next..]
     } else {
@@ -168,16 +167,13 @@ fn unpair(s: &[u8], out: &mut [u8], size: usize)
     }
 }
 
-// The word that spells no bytes.
-const NO_BYTES: u8 = b'-';
-
 // The bytes that a word spells in hexadecimal, put at the front of `out`; `-` spells none.
 pub fn bytes_of(s: &[u8], out: &mut [u8]) -> Taken
     ensures value { result ≡ (taken_of s.now out.old).answer }
     ensures out_after { out.new ≡ (taken_of s.now out.old).after }
 {
     if s.len() == 1 {
-        if s[0] == NO_BYTES {
+        if s[0] == b'-' {
             return Taken::Bytes(0);
         }
         return Taken::Bad;

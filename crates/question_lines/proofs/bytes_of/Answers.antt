@@ -10,13 +10,13 @@ use Rattle.question_lines.specs.Digits.{all_digits}
 use Rattle.question_lines.proofs.Laws.{not-empty, of-pairs}
 use Rattle.question_lines.proofs.bytes_of.Goals as goal
 
-pub returns-then-s-eq-NO_BYTES : goal.returns-then-s-eq-NO_BYTES
+pub returns-then-s-eq45 : goal.returns-then-s-eq45
 unfolding taken_of
-returns-then-s-eq-NO_BYTES c =
+returns-then-s-eq45 c =
     let s = c.args.s.now in
     record {
-      value = simp (eq-eqb (length s) 1 c.if-s-eq1.true, eq-eqb (get_or s 0 0) 45 c.if-s-eq-NO_BYTES.true);
-      out_after = simp (eq-eqb (length s) 1 c.if-s-eq1.true, eq-eqb (get_or s 0 0) 45 c.if-s-eq-NO_BYTES.true);
+      value = simp (eq-eqb (length s) 1 c.if-s-eq1.true, eq-eqb (get_or s 0 0) 45 c.if-s-eq45.true);
+      out_after = simp (eq-eqb (length s) 1 c.if-s-eq1.true, eq-eqb (get_or s 0 0) 45 c.if-s-eq45.true);
     }
 
 pub returns-then-s-eq1 : goal.returns-then-s-eq1
@@ -24,8 +24,8 @@ unfolding taken_of
 returns-then-s-eq1 c =
     let s = c.args.s.now in
     record {
-      value = simp (eq-eqb (length s) 1 c.if-s-eq1.true, ne_eqb (get_or s 0 0) 45 c.if-s-eq-NO_BYTES.false);
-      out_after = simp (eq-eqb (length s) 1 c.if-s-eq1.true, ne_eqb (get_or s 0 0) 45 c.if-s-eq-NO_BYTES.false);
+      value = simp (eq-eqb (length s) 1 c.if-s-eq1.true, ne_eqb (get_or s 0 0) 45 c.if-s-eq45.false);
+      out_after = simp (eq-eqb (length s) 1 c.if-s-eq1.true, ne_eqb (get_or s 0 0) 45 c.if-s-eq45.false);
     }
 
 pub returns-then-s-eq0 : goal.returns-then-s-eq0
