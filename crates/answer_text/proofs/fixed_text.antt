@@ -1,3 +1,2 @@
-pub mod Signs
-pub mod Sixteen
+pub mod Numbers
 pub mod OneAnswer

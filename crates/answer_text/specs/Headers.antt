@@ -1,12 +1,11 @@
 -- A header as text: ok LENGTH l|B TYPE FLAGS VERSION SERIAL BODY_PLACE BODY_LENGTH, and the nine fields.
-use Rattle.std.specs.Prelude.{ℕ, List, [], ◌∷◌, ◌++◌}
+use Rattle.std.specs.Prelude.{ℕ, List, [], ◌∷◌, ◌++◌, Result, Ok, Err}
 use Rattle.meaning.specs.Message.{mark, kind_code}
 use Rattle.meaning.specs.declared.Entry.{Entry}
 use Rattle.meaning.specs.declared.Entry.TheVariants.{Absent, Number, Text}
 use Rattle.meaning.specs.declared.Fields.{Fields}
 use Rattle.meaning.specs.declared.Header.{Header}
-use Rattle.meaning.specs.declared.HeaderRead.{HeaderRead}
-use Rattle.meaning.specs.declared.HeaderRead.TheVariants.{Read, Refused}
+use Rattle.meaning.specs.declared.Refusal.{Refusal}
 use Rattle.text_out.specs.Digits.{decimal}
 use Rattle.answer_text.specs.Texts.{ok_texts, refused_texts}
 
@@ -42,6 +41,6 @@ entry_texts (Text p n) = (32 ∷ 116 ∷ 58 ∷ []) ∷ decimal p.0 ∷ (58 ∷ 
 abbrev pub whole_texts : Header → List (List ℕ)
 whole_texts h = head_texts h ++ each_texts entry_texts (entries_of h.fields)
 
-abbrev pub header_texts : HeaderRead → List (List ℕ)
-header_texts (Read h) = whole_texts h
-header_texts (Refused r) = refused_texts r
+abbrev pub header_texts : Result Header Refusal → List (List ℕ)
+header_texts (Ok h) = whole_texts h
+header_texts (Err r) = refused_texts r

@@ -1,100 +1,67 @@
-// A value of fixed width as text, put into a buffer that the caller lends. Each function that puts answers the place behind its text.
-ghost use Rattle.std.specs.Prelude.{◌≡◌};
+// A value of fixed width as text, put into a buffer that the caller lends. Each function answers the place behind its text.
+ghost use Rattle.std.specs.Prelude.{◌≡◌, ◌∷◌, ◌++◌};
 ghost use Rattle.text_out.specs.Puts.{Puts};
-ghost use Rattle.answer_text.specs.Values.{signed_shown, shown_of, kind_texts, bits_texts, shown_texts, fixed_texts};
+ghost use Rattle.answer_text.specs.Values.{signed_texts, double_texts, bits_texts, value_texts, fixed_texts};
 
-use meaning::{FixedRead, FixedValue};
+use crate::{labelled, refused, spelled};
+use meaning::{FixedValue, Refusal};
+use text_out::{put, put_number};
 
-// How a value is shown, behind the letter of its kind: a number, a number below zero by its distance from it, or 64 bits.
-#[derive(Clone, Copy)]
-pub enum Shown {
-    Plain(u8, u64),
-    Minus(u8, u64),
-    Bits(u8, u64),
+// A number behind a word, with its sign.
+fn signed(out: &mut [u8], at: usize, word: &[u8], n: i64) -> usize
+    ensures { Puts out.old at (word.now ∷ signed_texts n) result out.new }
+{
+    let behind = put(out, at, word);
+    if n < 0 {
+        let past = put(out, behind, b"-");
+        put_number(out, past, n.unsigned_abs())
+    } else {
+        put_number(out, behind, n.unsigned_abs())
+    }
 }
 
-fn signed(letter: u8, n: i64) -> Shown
-    ensures { result ≡ signed_shown letter n }
+// 64 bits behind a word, in sixteen digits.
+fn bits(out: &mut [u8], at: usize, word: &[u8], n: u64) -> usize
+    ensures { Puts out.old at (word.now ∷ bits_texts n) result out.new }
 {
-    if n < 0 {
-        Shown::Minus(letter, (-1 - n) as u64 + 1)
-    } else {
-        Shown::Plain(letter, n as u64)
-    }
+    spelled(out, at, word, &n.to_be_bytes())
 }
 
 // The reader gives a NaN by its bits in a case of its own. One that stands here nevertheless is shown as the plainest NaN.
-fn double(x: f64) -> Shown
-    ensures { result ≡ shown_of (FixedValue.Double x) }
+fn double(out: &mut [u8], at: usize, x: f64) -> usize
+    ensures { Puts out.old at (double_texts x) result out.new }
 {
     if x == x {
-        Shown::Bits(b'd', f64::to_bits(x))
+        bits(out, at, b"ok d ", x.to_bits())
     } else {
-        Shown::Bits(b'N', 0x7ff8_0000_0000_0000)
+        bits(out, at, b"ok N ", 0x7ff8_0000_0000_0000)
     }
 }
 
-fn show(v: FixedValue) -> Shown
-    ensures { result ≡ shown_of v }
+fn value(out: &mut [u8], at: usize, v: FixedValue) -> usize
+    ensures { Puts out.old at (value_texts v) result out.new }
 {
     match v {
-        FixedValue::Byte(n) => Shown::Plain(b'y', n as u64),
-        FixedValue::Boolean(b) => Shown::Plain(b'b', b as u64),
-        FixedValue::Int16(n) => signed(b'n', n as i64),
-        FixedValue::Uint16(n) => Shown::Plain(b'q', n as u64),
-        FixedValue::Int32(n) => signed(b'i', n as i64),
-        FixedValue::Uint32(n) => Shown::Plain(b'u', n as u64),
-        FixedValue::Int64(n) => signed(b'x', n),
-        FixedValue::Uint64(n) => Shown::Plain(b't', n),
-        FixedValue::Double(x) => double(x),
-        FixedValue::Nan(n) => Shown::Bits(b'N', n),
-        FixedValue::UnixFd(n) => Shown::Plain(b'h', n as u64),
-    }
-}
-
-// The letter of a value's kind, before the value.
-fn kind(out: &mut [u8], at: usize, letter: u8) -> usize
-    ensures { Puts out.old at (kind_texts letter) result out.new }
-{
-    let word = [b'o', b'k', b' ', letter, b' '];
-    text_out::put(out, at, &word)
-}
-
-// 64 bits in sixteen digits.
-fn bits(out: &mut [u8], at: usize, n: u64) -> usize
-    ensures { Puts out.old at (bits_texts n) result out.new }
-{
-    let mut text = [0u8; 16];
-    let k = io::hex(n, 16, &mut text);
-    text_out::put(out, at, &text[..k])
-}
-
-fn put_shown(out: &mut [u8], at: usize, s: Shown) -> usize
-    ensures { Puts out.old at (shown_texts s) result out.new }
-{
-    match s {
-        Shown::Plain(letter, n) => {
-            let behind = kind(out, at, letter);
-            text_out::put_number(out, behind, n)
-        }
-        Shown::Minus(letter, n) => {
-            let behind = kind(out, at, letter);
-            let sign = text_out::put(out, behind, b"-");
-            text_out::put_number(out, sign, n)
-        }
-        Shown::Bits(letter, n) => {
-            let behind = kind(out, at, letter);
-            bits(out, behind, n)
-        }
+        FixedValue::Byte(n) => labelled(out, at, b"ok y ", u64::from(n)),
+        FixedValue::Boolean(b) => labelled(out, at, b"ok b ", u64::from(b)),
+        FixedValue::Int16(n) => signed(out, at, b"ok n ", i64::from(n)),
+        FixedValue::Uint16(n) => labelled(out, at, b"ok q ", u64::from(n)),
+        FixedValue::Int32(n) => signed(out, at, b"ok i ", i64::from(n)),
+        FixedValue::Uint32(n) => labelled(out, at, b"ok u ", u64::from(n)),
+        FixedValue::Int64(n) => signed(out, at, b"ok x ", n),
+        FixedValue::Uint64(n) => labelled(out, at, b"ok t ", n),
+        FixedValue::Double(x) => double(out, at, x),
+        FixedValue::Nan(n) => bits(out, at, b"ok N ", n),
+        FixedValue::UnixFd(n) => labelled(out, at, b"ok h ", u64::from(n)),
     }
 }
 
 // What the value reader found: a value with its kind, or a refusal.
-pub fn fixed(out: &mut [u8], at: usize, r: FixedRead) -> usize
+pub fn fixed(out: &mut [u8], at: usize, r: Result<FixedValue, Refusal>) -> usize
     ensures { Puts out.old at (fixed_texts r) result out.new }
 {
     match r {
-        FixedRead::Read(v) => put_shown(out, at, show(v)),
-        FixedRead::Refused(r) => crate::refused(out, at, r),
+        Ok(v) => value(out, at, v),
+        Err(r) => refused(out, at, r),
     }
 }

@@ -1,95 +1,37 @@
 // A message's header as text, put into a buffer that the caller lends. Each function that puts answers the place behind its text.
-ghost use Rattle.std.specs.Prelude.{◌≡◌, ◌<◌, get_or};
+ghost use Rattle.std.specs.Prelude.{◌≡◌};
 ghost use Rattle.meaning.specs.Message.{mark as mark_of};
 ghost use Rattle.text_out.specs.Puts.{Puts};
 ghost use Rattle.answer_text.specs.Headers.{mark_texts, numbers_of, number_texts, entry_texts, entries_of, each_texts, head_texts, whole_texts, header_texts};
 
-use meaning::{Entry, Fields, Header, HeaderRead, Order};
+use crate::{labelled, refused};
+use meaning::{Entry, Fields, Header, Order, Refusal};
+use text_out::put;
 
-fn mark_of(h: Header) -> u8
-    ensures { result ≡ mark_of h.order }
+fn mark(out: &mut [u8], at: usize, order: Order) -> usize
+    ensures { Puts out.old at (mark_texts (mark_of order)) result out.new }
 {
-    let order = h.order;
     match order {
-        Order::Little => b'l',
-        Order::Big => b'B',
+        Order::Little => put(out, at, b" l"),
+        Order::Big => put(out, at, b" B"),
     }
 }
 
 // The numbers of a header, in the order in which they are said.
-fn number_at(h: Header, i: usize) -> u64
-    requires { i < 6 }
-    ensures { result ≡ get_or (numbers_of h) i 0 }
-{
-    let kind = h.kind;
-    let body = h.body;
-    let size = h.body_length;
-    let all = [
-        meaning::kind_code(kind) as u64,
-        h.flags as u64,
-        h.version as u64,
-        h.serial as u64,
-        body.0 as u64,
-        size.0 as u64,
-    ];
-    all[i]
-}
-
-fn entry_at(f: Fields, i: usize) -> Entry
-    requires { i < 9 }
-    ensures { result ≡ get_or (entries_of f) i Entry.Absent }
-{
-    let object = f.object;
-    let interface = f.interface;
-    let member = f.member;
-    let error_name = f.error_name;
-    let response_serial = f.response_serial;
-    let destination = f.destination;
-    let sender = f.sender;
-    let signature = f.signature;
-    let num_fds = f.num_fds;
-    let all = [
-        object,
-        interface,
-        member,
-        error_name,
-        response_serial,
-        destination,
-        sender,
-        signature,
-        num_fds,
-    ];
-    all[i]
-}
-
-fn length_of(h: Header) -> u64
-    ensures { result ≡ h.length.0 }
-{
-    let length = h.length;
-    length.0 as u64
-}
-
-fn fields_of(h: Header) -> Fields
-    ensures { result ≡ h.fields }
-{
-    h.fields
-}
-
-fn mark(out: &mut [u8], at: usize, letter: u8) -> usize
-    ensures { Puts out.old at (mark_texts letter) result out.new }
-{
-    let word = [b' ', letter];
-    text_out::put(out, at, &word)
-}
-
 fn numbers(out: &mut [u8], at: usize, h: Header) -> usize
     ensures { Puts out.old at (each_texts number_texts (numbers_of h)) result out.new }
 {
+    let all = [
+        u64::from(meaning::kind_code(h.kind)),
+        u64::from(h.flags),
+        u64::from(h.version),
+        u64::from(h.serial),
+        h.body.0 as u64,
+        h.body_length.0 as u64,
+    ];
     let mut behind = at;
-    let mut i = 0;
-    while i < 6 {
-        behind = crate::labelled(out, behind, b" ", number_at(h, i));
-        i += 1;
+    for n in all {
+        behind = labelled(out, behind, b" ", n);
     }
     behind
 }
@@ -98,11 +40,11 @@ fn entry(out: &mut [u8], at: usize, e: Entry) -> usize
     ensures { Puts out.old at (entry_texts e) result out.new }
 {
     match e {
-        Entry::Absent => text_out::put(out, at, b" -"),
-        Entry::Number(n) => crate::labelled(out, at, b" n:", n as u64),
+        Entry::Absent => put(out, at, b" -"),
+        Entry::Number(n) => labelled(out, at, b" n:", u64::from(n)),
         Entry::Text(place, length) => {
-            let behind = crate::labelled(out, at, b" t:", place.0 as u64);
-            crate::labelled(out, behind, b":", length.0 as u64)
+            let behind = labelled(out, at, b" t:", place.0 as u64);
+            labelled(out, behind, b":", length.0 as u64)
         }
     }
 }
@@ -110,11 +52,20 @@ fn entry(out: &mut [u8], at: usize, e: Entry) -> usize
 fn entries(out: &mut [u8], at: usize, f: Fields) -> usize
     ensures { Puts out.old at (each_texts entry_texts (entries_of f)) result out.new }
 {
+    let all = [
+        f.object,
+        f.interface,
+        f.member,
+        f.error_name,
+        f.response_serial,
+        f.destination,
+        f.sender,
+        f.signature,
+        f.num_fds,
+    ];
     let mut behind = at;
-    let mut i = 0;
-    while i < 9 {
-        behind = entry(out, behind, entry_at(f, i));
-        i += 1;
+    for e in all {
+        behind = entry(out, behind, e);
     }
     behind
 }
@@ -123,8 +74,8 @@ fn entries(out: &mut [u8], at: usize, f: Fields) -> usize
 fn head(out: &mut [u8], at: usize, h: Header) -> usize
     ensures { Puts out.old at (head_texts h) result out.new }
 {
-    let behind = crate::labelled(out, at, b"ok ", length_of(h));
-    let past = mark(out, behind, mark_of(h));
+    let behind = labelled(out, at, b"ok ", h.length.0 as u64);
+    let past = mark(out, behind, h.order);
     numbers(out, past, h)
 }
 
@@ -132,15 +83,15 @@ fn whole(out: &mut [u8], at: usize, h: Header) -> usize
     ensures { Puts out.old at (whole_texts h) result out.new }
 {
     let behind = head(out, at, h);
-    entries(out, behind, fields_of(h))
+    entries(out, behind, h.fields)
 }
 
 // A header that was read, with its nine fields, or the message's refusal.
-pub fn header(out: &mut [u8], at: usize, r: HeaderRead) -> usize
+pub fn header(out: &mut [u8], at: usize, r: Result<Header, Refusal>) -> usize
     ensures { Puts out.old at (header_texts r) result out.new }
 {
     match r {
-        HeaderRead::Read(h) => whole(out, at, h),
-        HeaderRead::Refused(r) => crate::refused(out, at, r),
+        Ok(h) => whole(out, at, h),
+        Err(r) => refused(out, at, r),
     }
 }

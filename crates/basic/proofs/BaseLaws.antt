@@ -1,4 +1,4 @@
--- Basic values by the ways through the code: b is all that is seen, and `end` is where it ends.
+-- Basic values by the ways through the code.
 use Prim.Native.Nat.{ℕ, ◌+◌, ◌≤◌, ◌<◌}
 use native.Mathlib.Omega.{arith}
 use mathlib.Core.Bool.{false}
@@ -8,8 +8,7 @@ use lib.ListN.{length, take, drop}
 use lib.Dec.{T}
 use Rattle.meaning.specs.declared.Order.{Order}
 use Rattle.meaning.specs.declared.Refusal.{Refusal}
-use Rattle.meaning.specs.declared.Reached.{Reached}
-use Rattle.meaning.specs.declared.Reached.TheVariants.{At, Refused}
+use Rattle.std.specs.Prelude.{Result, Ok, Err}
 use Rattle.meaning.specs.declared.Place.{Place}
 use Rattle.meaning.specs.declared.Fault.TheVariants.{NotEnoughBytes, InvalidBoolean}
 use Rattle.meaning.specs.Faults.{refusal}
@@ -26,28 +25,28 @@ use Rattle.types.specs.Codes.{align_code}
 use Rattle.types.proofs.CodeLaws.{align-base}
 use Rattle.basic.specs.Basic.{AnyBits}
 
-module _ (o : Order) (c : Fix) (b : List ℕ) (end off : ℕ) (ends : length b ≡ end) where
+module _ (o : Order) (c : Fix) (b : List ℕ) (off : ℕ) where
   abbrev tested : ℕ → List ℕ → R ℕ
   tested p xs = check (valid c (load o xs)) InvalidBoolean p >> ret (load o xs)
 
   abbrev bits : List ℕ
   bits = take (size c) (drop off b)
 
-  pub number_short : (n : ℕ) (x : Refusal) → n ≡ size c → end < off + n → x ≡ refusal NotEnoughBytes off → Refused x ≡ reached_of (read_fix o c b off)
+  pub number_short : (n : ℕ) (x : Refusal) → n ≡ size c → length b < off + n → x ≡ refusal NotEnoughBytes off → Err x ≡ reached_of (read_fix o c b off)
   unfolding read_fix
   number_short n x k h e =
       rw e (sym (ap reached_of (here-bind (λ p. bytes (size c) p >>= tested p) b off ∙ bind-fault (bytes (size c) off) (tested off) b off (refusal NotEnoughBytes off) (bytes-no (size c) off b off (omega arith)))))
 
-  module _ (n : ℕ) (wide : n ≡ size c) (fits : off + n ≤ end) where
+  module _ (n : ℕ) (wide : n ≡ size c) (fits : off + n ≤ length b) where
     there : read_fix o c b off ≡ tested off bits b (off + size c)
     unfolding read_fix
     there = here-bind (λ p. bytes (size c) p >>= tested p) b off ∙ bind-got (bytes (size c) off) (tested off) b off bits (off + size c) (bytes-yes (size c) off b off (omega arith))
 
-    pub number_read : T (valid c (load o bits)) → At (record { 0 = off + n }) ≡ reached_of (read_fix o c b off)
+    pub number_read : T (valid c (load o bits)) → Ok (record { 0 = off + n }) ≡ reached_of (read_fix o c b off)
     unfolding ret
     number_read v = rw wide (sym (ap reached_of (there ∙ check_bind (valid c (load o bits)) InvalidBoolean off (λ z. ret (load o bits)) b (off + size c) v)))
 
-    pub number-wrong : (x : Refusal) → valid c (load o bits) ≡ false → x ≡ refusal InvalidBoolean off → Refused x ≡ reached_of (read_fix o c b off)
+    pub number-wrong : (x : Refusal) → valid c (load o bits) ≡ false → x ≡ refusal InvalidBoolean off → Err x ≡ reached_of (read_fix o c b off)
     unfolding check
     number-wrong x v e = rw e (sym (ap reached_of (there ∙ bind-fault (check (valid c (load o bits)) InvalidBoolean off) (λ z. ret (load o bits)) b (off + size c) (refusal InvalidBoolean off) (rw (v, check)))))
 
@@ -74,38 +73,38 @@ is_number sig s p g b = absurd (g refl)
 
 -- a basic value is its padding and its bytes
 module _ (o : Order) (c : Base) (b : List ℕ) (off : ℕ) where
-  pub base-stop : (x : Refusal) → reached_of (padding (align_base c) b off) ≡ Refused x → Refused x ≡ reached_of (base_r o c b off)
+  pub base-stop : (x : Refusal) → reached_of (padding (align_base c) b off) ≡ Err x → Err x ≡ reached_of (base_r o c b off)
   unfolding base_r
   base-stop x h = sym (ap reached_of (bind-fault (padding (align_base c)) (λ z. bare_r o c) b off x (refused-inv (padding (align_base c) b off) x h)))
 
-  pub base-bare : (p : Place) (r : Reached) → reached_of (padding (align_base c) b off) ≡ At p → r ≡ reached_of (bare_r o c b p.0) → r ≡ reached_of (base_r o c b off)
+  pub base-bare : (p : Place) (r : Result Place Refusal) → reached_of (padding (align_base c) b off) ≡ Ok p → r ≡ reached_of (bare_r o c b p.0) → r ≡ reached_of (base_r o c b off)
   unfolding base_r
   base-bare p r h k =
       let i = at-inv (padding (align_base c) b off) p h in
       k ∙ sym (ap reached_of (bind-got (padding (align_base c)) (λ z. bare_r o c) b off i.0 p.0 i.1))
 
 -- the padding that the table's entry for the code asks for
-pub base-padding : (c : Base) (k a : ℕ) (b : List ℕ) (off : ℕ) {q : Reached} → a ≡ align_code k → k ≡ code c → q ≡ reached_of (padding a b off) → reached_of (padding (align_base c) b off) ≡ q
+pub base-padding : (c : Base) (k a : ℕ) (b : List ℕ) (off : ℕ) {q : Result Place Refusal} → a ≡ align_code k → k ≡ code c → q ≡ reached_of (padding a b off) → reached_of (padding (align_base c) b off) ≡ q
 base-padding c k a b off e h g = sym (g ∙ ap (λ (n : ℕ). reached_of (padding n b off)) (e ∙ ap align_code h ∙ align-base c))
 
 -- an answer for the type that a code turned out to be
-pub as-base : (o : Order) (b : List ℕ) (off : ℕ) (d : Base) {c : Base} (r : Reached) → c ≡ d → r ≡ reached_of (bare_r o d b off) → r ≡ reached_of (bare_r o c b off)
+pub as-base : (o : Order) (b : List ℕ) (off : ℕ) (d : Base) {c : Base} (r : Result Place Refusal) → c ≡ d → r ≡ reached_of (bare_r o d b off) → r ≡ reached_of (bare_r o c b off)
 as-base o b off d r e h = rw e h
 
 -- a number is its padding and its bytes
 module _ (o : Order) (c : Fix) (n : ℕ) (b : List ℕ) (off : ℕ) (wide : n ≡ size c) where
-  wide-padding : {q : Reached} → q ≡ reached_of (padding n b off) → reached_of (padding (align_base (fix c)) b off) ≡ q
+  wide-padding : {q : Result Place Refusal} → q ≡ reached_of (padding n b off) → reached_of (padding (align_base (fix c)) b off) ≡ q
   wide-padding g = sym (g ∙ ap (λ (x : ℕ). reached_of (padding x b off)) wide)
 
-  pub number-stop : (q : Reached) (x : Refusal) → q ≡ reached_of (padding n b off) → q ≡ Refused x → Refused x ≡ reached_of (base_r o (fix c) b off)
+  pub number-stop : (q : Result Place Refusal) (x : Refusal) → q ≡ reached_of (padding n b off) → q ≡ Err x → Err x ≡ reached_of (base_r o (fix c) b off)
   number-stop q x g k = base-stop o (fix c) b off x (wide-padding g ∙ k)
 
-  pub number_at : (q : Reached) (p : Place) (r : Reached) → q ≡ reached_of (padding n b off) → q ≡ At p → r ≡ reached_of (read_fix o c b p.0) → r ≡ reached_of (base_r o (fix c) b off)
+  pub number_at : (q : Result Place Refusal) (p : Place) (r : Result Place Refusal) → q ≡ reached_of (padding n b off) → q ≡ Ok p → r ≡ reached_of (read_fix o c b p.0) → r ≡ reached_of (base_r o (fix c) b off)
   unfolding bare_r
   number_at q p r g k l = base-bare o (fix c) b off p r (wide-padding g ∙ k) l
 
 -- an answer for every number of n bytes is one for the number that a code turned out to be
-module _ (o : Order) (b : List ℕ) (off : ℕ) (c : Base) (n k : ℕ) (r : Reached) (coded : k ≡ code c)
+module _ (o : Order) (b : List ℕ) (off : ℕ) (c : Base) (n k : ℕ) (r : Result Place Refusal) (coded : k ≡ code c)
     (all : (o : Order) (d : Fix) → AnyBits d → n ≡ size d → r ≡ reached_of (base_r o (fix d) b off)) where
   pub as_number : (f : Fix) → AnyBits f → n ≡ size f → k ≡ code_fix f → r ≡ reached_of (base_r o c b off)
   as_number f any e g = rw (same_code c (fix f) (sym coded ∙ g)) (all o f any e)

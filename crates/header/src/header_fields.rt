@@ -1,60 +1,45 @@
 // The table of header fields (unmarshal.rs): document 01, port order 5.
-ghost use Rattle.std.specs.Prelude.{◌≡◌, ◌&&◌, ◌-◌, take};
-ghost use Rattle.util.specs.Entry.{Window};
+ghost use Rattle.std.specs.Prelude.{◌≡◌, ◌&&◌, ◌-◌, ◌≤◌, length};
 ghost use Rattle.header.specs.HeaderFields.{first_of, present, once, fields_r, by_code, table_to};
 
 use crate::header_field;
-use crate::header_field::FieldRead;
 use meaning::{Entry, Fault, Fields, MessageType, Order, Refusal};
 
+// Of one code: how often it was seen, and the entry of the first field that has it.
 #[derive(Clone, Copy)]
-pub enum TableRead {
-    Read(Fields),
-    Refused(Refusal),
+struct Seen {
+    count: usize,
+    entry: Entry,
 }
 
 // Whether the fields stand there that this type of message asks for, by how often each code was seen.
-fn required(kind: MessageType, counts: &[usize; 10]) -> bool
-    ensures { result ≡ present kind counts.now }
+fn required(kind: MessageType, seen: &[Seen; 10]) -> bool
+    ensures { result ≡ present kind seen.now }
 {
     match kind {
-        MessageType::Call => { if counts[1] < 1 { false } else { 1 <= counts[3] } }
-        MessageType::Reply => 1 <= counts[5],
-        MessageType::Error => { if counts[4] < 1 { false } else { 1 <= counts[5] } }
-        MessageType::Signal => {
-            if counts[1] < 1 {
-                false
-            } else if counts[2] < 1 {
-                false
-            } else {
-                1 <= counts[3]
-            }
-        }
+        MessageType::Call => 1 <= seen[1].count && 1 <= seen[3].count,
+        MessageType::Reply => 1 <= seen[5].count,
+        MessageType::Error => 1 <= seen[4].count && 1 <= seen[5].count,
+        MessageType::Signal => 1 <= seen[1].count && 1 <= seen[2].count && 1 <= seen[3].count,
     }
 }
 
-// Whether no known code was seen twice.
-fn unrepeated(counts: &[usize; 10]) -> bool
-    ensures { result ≡ once counts.now }
+// Whether no known code was seen twice. No `.all(..)`: a wrong number in its closure fails a search, which shows `tools/refused` nothing.
+fn unrepeated(seen: &[Seen; 10]) -> bool
+    ensures { result ≡ once seen.now }
 {
-    let mut c = 1;
-    while c < 10 {
-        if 1 < counts[c] {
+    for code in 1..10 {
+        if 1 < seen[code].count {
             return false;
         }
-        c += 1;
     }
     true
 }
 
-fn validate_header_fields(kind: MessageType, counts: &[usize; 10]) -> bool
-    ensures { result ≡ (present kind counts.now && once counts.now) }
+fn validate_header_fields(kind: MessageType, seen: &[Seen; 10]) -> bool
+    ensures { result ≡ (present kind seen.now && once seen.now) }
 {
-    if required(kind, counts) {
-        unrepeated(counts)
-    } else {
-        false
-    }
+    required(kind, seen) && unrepeated(seen)
 }
 
 // Of two entries for one code the first is kept.
@@ -65,55 +50,51 @@ fn first_of(count: usize, old: Entry, new: Entry) -> Entry
 }
 
 // The entries of the known codes, each under its name.
-fn by_code(entries: [Entry; 10]) -> Fields
-    ensures { result ≡ by_code entries }
+fn by_code(seen: &[Seen; 10]) -> Fields
+    ensures { result ≡ by_code seen.now }
 {
     Fields {
-        object: entries[1],
-        interface: entries[2],
-        member: entries[3],
-        error_name: entries[4],
-        response_serial: entries[5],
-        destination: entries[6],
-        sender: entries[7],
-        signature: entries[8],
-        num_fds: entries[9],
+        object: seen[1].entry,
+        interface: seen[2].entry,
+        member: seen[3].entry,
+        error_name: seen[4].entry,
+        response_serial: seen[5].entry,
+        destination: seen[6].entry,
+        sender: seen[7].entry,
+        signature: seen[8].entry,
+        num_fds: seen[9].entry,
     }
 }
 
-// The header fields from `first` up to `end`: the nine entries. The place 0 of the arrays is for codes that are not known.
+// The header fields from `first` to the end: the nine entries. Each code is its own place in `seen`.
 pub fn unmarshal_header_fields(
     order: Order,
     kind: MessageType,
     buf: &[u8],
-    end: usize,
     first: usize,
-) -> TableRead
-    requires { Window buf.now end first }
-    ensures { result ≡ table_to order first (fields_r order kind (end - first) (take end buf.now) first) }
+) -> Result<Fields, Refusal>
+    requires { first ≤ length buf.now }
+    ensures { result ≡ table_to order first (fields_r order kind (length buf.now - first) buf.now first) }
 {
-    let mut entries = [Entry::Absent; 10];
-    let mut counts = [0usize; 10];
+    let none = Seen {
+        count: 0,
+        entry: Entry::Absent,
+    };
+    let mut seen = [none; 10];
     let mut at = first;
-    while at < end {
-        match header_field::unmarshal_header_field(order, buf, end, at) {
-            FieldRead::Read(field) => {
-                let code = field.code;
-                let entry = field.entry;
-                let next = field.next;
-                let count = counts[code];
-                entries[code] = first_of(count, entries[code], entry);
-                counts[code] = count + 1;
-                at = next.0;
-            }
-            FieldRead::Refused(refusal) => {
-                return TableRead::Refused(refusal);
-            }
+    while at < buf.len() {
+        let field = header_field::unmarshal_header_field(order, buf, at)?;
+        if let Some(kept) = field.kept {
+            let old = seen[kept.code];
+            seen[kept.code] = Seen {
+                count: old.count + 1,
+                entry: first_of(old.count, old.entry, kept.entry),
+            };
         }
+        at = field.next.0;
     }
-    if validate_header_fields(kind, &counts) {
-        TableRead::Read(by_code(entries))
-    } else {
-        TableRead::Refused(meaning::refuse(Fault::InvalidHeaderFields, 0))
+    if !validate_header_fields(kind, &seen) {
+        return Err(meaning::refuse(Fault::InvalidHeaderFields, 0));
     }
+    Ok(by_code(&seen))
 }

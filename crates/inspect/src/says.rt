@@ -1,341 +1,225 @@
-// What is printed of a message, of a refusal and at the end: each function puts text into the output and says where the next byte goes.
-use crate::fill::{byte, fill};
+// What is printed of a message, of a refusal and at the end.
 use crate::hint::Hint;
-use crate::shown::each;
-use crate::{Out, dump, hint, words};
-use meaning::{Entry, Fields, Header, Refusal};
-use std::num::wrapping_add_u64;
+use crate::names::FieldName;
+use crate::shown::{Text, part};
+use crate::words::{OrderName, TheByte, TheField, TypeName};
+use crate::{dump, hint, refusals, words};
+use meaning::{Entry, Fields, Header, Length, Place, Refusal};
+use std::io::Write;
+use std::{fmt, io};
 
-// So many bytes of a text are shown.
-const SHOWN: usize = 200;
+// What was accepted of the stream: so many messages, in so many bytes.
+#[derive(Clone, Copy, Default)]
+pub(crate) struct Passed {
+    messages: u64,
+    bytes: u64,
+}
 
-// `count` bytes from `first` on, as far as there are any.
-fn part(s: &[u8], first: usize, count: usize) -> &[u8] {
-    let all = s.len();
-    if all < first {
-        return &s[all..];
+impl Passed {
+    // One more message, of so many bytes.
+    pub(crate) fn add(&mut self, length: usize) {
+        self.messages = self.messages.wrapping_add(1);
+        self.bytes = self.bytes.wrapping_add(length as u64);
     }
-    if all - first < count {
-        return &s[first..];
+}
+
+impl fmt::Display for Passed {
+    fn fmt<W: fmt::Write>(&self, f: &mut fmt::Formatter<W>) -> fmt::Result {
+        let messages = words::messages(self.messages);
+        let bytes = words::bytes(self.bytes);
+        write!(f, "{messages} in {bytes}")
     }
-    let end = first + count;
-    &s[first..end]
 }
 
-// A text, or its start and its length where it is a long one.
-fn text(out: &mut Out, at: usize, s: &[u8]) -> usize {
-    let behind = each(out, at, question_lines::first(s, SHOWN), false);
-    if s.len() <= SHOWN {
-        return behind;
+// Number and place of the next message, which open its paragraph.
+pub(crate) fn head(out: &mut impl Write, passed: Passed) -> io::Result<()> {
+    let number = passed.messages.wrapping_add(1);
+    let first = passed.bytes;
+    write!(out, "message {number} at byte {first}: ")
+}
+
+// What a message is, how long, and its serial; flags and version only where they are not what most messages have.
+fn form(out: &mut impl Write, header: Header) -> io::Result<()> {
+    let kind = TypeName(header.kind);
+    let order = OrderName(header.order);
+    let Length(length) = header.length;
+    let size = words::bytes(length as u64);
+    let serial = header.serial;
+    write!(out, "{kind}, {order}, {size}, serial {serial}")?;
+    if header.flags != 0 {
+        write!(out, ", flags {}", header.flags)?;
     }
-    let numbers = [s.len() as u64];
-    fill(out, behind, b" ... (# byte% in all)", &numbers)
-}
-
-// The name of a header field opens its line.
-fn named(out: &mut Out, at: usize, code: u64) -> usize {
-    let behind = text_out::put(out, at, b"    ");
-    words::field(out, behind, code)
-}
-
-fn number_field(out: &mut Out, at: usize, code: u64, n: u64) -> usize {
-    let name = named(out, at, code);
-    let behind = text_out::put_number(out, name, n);
-    byte(out, behind, b'\n')
-}
-
-fn text_field(out: &mut Out, at: usize, code: u64, s: &[u8]) -> usize {
-    let name = named(out, at, code);
-    let behind = text(out, name, s);
-    byte(out, behind, b'\n')
+    if header.version != 1 {
+        write!(out, ", version {}", header.version)?;
+    }
+    writeln!(out)
 }
 
 // A header field with its name; nothing where it is absent.
-fn field(out: &mut Out, at: usize, code: u64, message: &[u8], entry: Entry) -> usize {
+fn field(out: &mut impl Write, message: &[u8], name: FieldName, entry: Entry) -> io::Result<()> {
     match entry {
-        Entry::Absent => at,
-        Entry::Number(n) => number_field(out, at, code, n as u64),
-        Entry::Text(place, length) => {
-            text_field(out, at, code, part(message, place.0, length.0))
+        Entry::Absent => Ok(()),
+        Entry::Number(n) => writeln!(out, "    {name:<14}{n}"),
+        Entry::Text(Place(first), Length(length)) => {
+            let text = Text(part(message, first, length));
+            writeln!(out, "    {name:<14}{text}")
         }
     }
 }
 
-fn entry_of(fields: Fields, code: u64) -> Entry {
-    match code {
-        1 => fields.object,
-        2 => fields.interface,
-        3 => fields.member,
-        4 => fields.error_name,
-        5 => fields.response_serial,
-        6 => fields.destination,
-        7 => fields.sender,
-        8 => fields.signature,
-        _ => fields.num_fds,
-    }
-}
-
-fn fields(out: &mut Out, at: usize, message: &[u8], all: Fields) -> usize {
-    let mut behind = at;
-    let mut code = 1;
-    while code < 10 {
-        let entry = entry_of(all, code);
-        behind = field(out, behind, code, message, entry);
-        code += 1;
-    }
-    behind
-}
-
-// Number and place of a message, which open its paragraph.
-pub(crate) fn head(out: &mut Out, at: usize, count: u64, first: u64) -> usize {
-    let numbers = [count, first];
-    fill(out, at, b"message # at byte #: ", &numbers)
-}
-
-// A number that most messages have; it is said where it is another.
-fn unusual(out: &mut Out, at: usize, template: &[u8], n: u8, usual: u8) -> usize {
-    if n == usual {
-        return at;
-    }
-    let numbers = [n as u64];
-    fill(out, at, template, &numbers)
-}
-
-// What a message is, how long, and its serial.
-fn form(out: &mut Out, at: usize, header: Header) -> usize {
-    let kind = header.kind;
-    let order = header.order;
-    let length = header.length;
-    let numbers = [
-        words::of_type(meaning::kind_code(kind)),
-        words::of_order(order),
-        length.0 as u64,
-        header.serial as u64,
+fn fields(out: &mut impl Write, message: &[u8], all: Fields) -> io::Result<()> {
+    let entries = [
+        (FieldName::Path, all.object),
+        (FieldName::Interface, all.interface),
+        (FieldName::Member, all.member),
+        (FieldName::ErrorName, all.error_name),
+        (FieldName::ReplySerial, all.response_serial),
+        (FieldName::Destination, all.destination),
+        (FieldName::Sender, all.sender),
+        (FieldName::Signature, all.signature),
+        (FieldName::UnixFds, all.num_fds),
     ];
-    fill(out, at, b"@, @, # byte%, serial #", &numbers)
-}
-
-fn numbers(out: &mut Out, at: usize, flags: u8, version: u8) -> usize {
-    let second = unusual(out, at, b", flags #", flags, 0);
-    let third = unusual(out, second, b", version #", version, 1);
-    byte(out, third, b'\n')
-}
-
-fn body(out: &mut Out, at: usize, size: u64, place: u64) -> usize {
-    if size == 0 {
-        return text_out::put(out, at, b"    body          empty\n");
+    for (name, entry) in entries {
+        field(out, message, name, entry)?;
     }
-    let numbers = [size, place];
-    fill(
-        out,
-        at,
-        b"    body          # byte% from byte # of the message on\n",
-        &numbers,
-    )
+    Ok(())
 }
 
 // A message by its header, without number and place; `message` begins with it.
-pub(crate) fn whole(out: &mut Out, at: usize, message: &[u8], header: Header) -> usize {
-    let all = header.fields;
-    let place = header.body;
-    let size = header.body_length;
-    let formed = form(out, at, header);
-    let titled = numbers(out, formed, header.flags, header.version);
-    let named = fields(out, titled, message, all);
-    body(out, named, size.0 as u64, place.0 as u64)
+pub(crate) fn whole(out: &mut impl Write, message: &[u8], header: Header) -> io::Result<()> {
+    form(out, header)?;
+    fields(out, message, header.fields)?;
+    let Length(size) = header.body_length;
+    let Place(place) = header.body;
+    if size == 0 {
+        return writeln!(out, "    body          empty");
+    }
+    let size = words::bytes(size as u64);
+    writeln!(
+        out,
+        "    body          {size} from byte {place} of the message on"
+    )
 }
 
 // Where a refusal stands. Faults before the body's values all have the position 0.
-fn position(out: &mut Out, at: usize, place: u64, first: u64) -> usize {
+fn position(out: &mut impl Write, place: usize, first: u64) -> io::Result<()> {
+    let byte = first.wrapping_add(place as u64);
+    write!(
+        out,
+        "    position {place} in the message, byte {byte} of the stream"
+    )?;
     if place == 0 {
-        let numbers = [first];
-        return fill(
-            out,
-            at,
-            b"    position 0 in the message, byte # of the stream (every fault before the body has position 0)\n",
-            &numbers,
-        );
+        write!(out, " (every fault before the body has position 0)")?;
     }
-    let numbers = [place, wrapping_add_u64(first, place)];
-    fill(
-        out,
-        at,
-        b"    position # in the message, byte # of the stream\n",
-        &numbers,
-    )
+    writeln!(out)
 }
 
-// Opens a hint, with words that set it apart from the lines above.
-fn lead(out: &mut Out, at: usize) -> usize {
-    text_out::put(out, at, b"    hint, not part of the proved answer: ")
-}
-
-// Opens a hint that names a byte; the template has its place in the message and in the stream.
-fn look(out: &mut Out, at: usize, template: &[u8], first: u64, byte: u64) -> usize {
-    let behind = lead(out, at);
-    let numbers = [byte, wrapping_add_u64(first, byte)];
-    fill(out, behind, template, &numbers)
-}
-
-fn look_at(out: &mut Out, at: usize, first: u64, byte: u64) -> usize {
-    let template = b"look at byte # of the message (byte # of the stream), ";
-    look(out, at, template, first, byte)
-}
-
-// The fault of a value has the place where the value begins, and may lie further on.
-fn look_from(out: &mut Out, at: usize, first: u64, byte: u64) -> usize {
-    let template = b"look from byte # of the message (byte # of the stream) on, ";
-    look(out, at, template, first, byte)
-}
-
-fn is_known(code: u64) -> bool {
-    if code == 0 { false } else { code < 10 }
-}
-
-// A known header field by its name and its code, another by its code.
-fn the_field(out: &mut Out, at: usize, code: u64) -> usize {
-    if is_known(code) {
-        let numbers = [wrapping_add_u64(words::FIELDS, code), code];
-        return fill(out, at, b"the header field @ (code #)", &numbers);
-    }
-    let numbers = [code];
-    fill(out, at, b"the header field with the code #", &numbers)
-}
-
-fn hint_at_byte(out: &mut Out, at: usize, first: u64, byte: u64, what: u64) -> usize {
-    let behind = look_at(out, at, first, byte);
-    let numbers = [what];
-    fill(out, behind, b"@\n", &numbers)
-}
-
-// A fault in a field, at its first byte or further inside.
-fn hint_in_field(out: &mut Out, at: usize, first: u64, code: u64, begin: u64, byte: u64) -> usize {
-    let looked = look_from(out, at, first, byte);
-    if byte == begin {
-        let begun = text_out::put(out, looked, b"where ");
-        let named = the_field(out, begun, code);
-        return text_out::put(out, named, b" begins\n");
-    }
-    let inside = text_out::put(out, looked, b"in ");
-    let named = the_field(out, inside, code);
-    let numbers = [begin];
-    fill(
-        out,
-        named,
-        b" that begins at byte # of the message\n",
-        &numbers,
-    )
-}
-
-fn hint_twice(out: &mut Out, at: usize, first: u64, code: u64, byte: u64) -> usize {
-    let looked = look_at(out, at, first, byte);
-    let begun = text_out::put(out, looked, b"where ");
-    let named = the_field(out, begun, code);
-    text_out::put(out, named, b" begins a second time\n")
-}
-
-fn hint_absent(out: &mut Out, at: usize, code: u64, kind: u64) -> usize {
-    let led = lead(out, at);
-    let named = the_field(out, led, code);
-    let numbers = [kind];
-    fill(
-        out,
-        named,
-        b" is absent, which a message of the type @ needs\n",
-        &numbers,
-    )
-}
-
-// Where to look for a fault that has the position 0, as far as that was found.
-fn hinted(out: &mut Out, at: usize, first: u64, hint: Hint) -> usize {
+// Where to look for a fault that has the position 0, in words that set it apart from the lines above.
+fn hinted(out: &mut impl Write, first: u64, hint: Hint) -> io::Result<()> {
+    write!(out, "    hint, not part of the proved answer: ")?;
     match hint {
-        Hint::Nothing => at,
-        Hint::Byte(byte, what) => hint_at_byte(out, at, first, byte as u64, what),
-        Hint::Field(code, begin, byte) => {
-            hint_in_field(out, at, first, code as u64, begin as u64, byte as u64)
+        Hint::Byte(byte, what) => {
+            let place = TheByte { byte, first };
+            writeln!(out, "look at {place}, {what}")
         }
-        Hint::Twice(code, byte) => hint_twice(out, at, first, code as u64, byte as u64),
-        Hint::Absent(code, kind) => hint_absent(out, at, code as u64, words::of_type(kind)),
+        Hint::Field { code, begin, byte } => {
+            // the fault of a value has the place where the value begins, and may lie further on.
+            let place = TheByte { byte, first };
+            let field = TheField(code);
+            write!(out, "look from {place} on, ")?;
+            if byte == begin {
+                writeln!(out, "where {field} begins")
+            } else {
+                writeln!(out, "in {field} that begins at byte {begin} of the message")
+            }
+        }
+        Hint::Twice(name, byte) => {
+            let place = TheByte { byte, first };
+            let field = TheField(name.code());
+            writeln!(out, "look at {place}, where {field} begins a second time")
+        }
+        Hint::Absent(name, kind) => {
+            let field = TheField(name.code());
+            let kind = TypeName(kind);
+            writeln!(
+                out,
+                "{field} is absent, which a message of the type {kind} needs"
+            )
+        }
     }
 }
 
-// A refusal without the message's number and place; `message` is what is there of the message.
+// A refusal without the message's number; `message` is what is there of the message.
 pub(crate) fn refused(
-    out: &mut Out,
-    at: usize,
-    first: u64,
+    out: &mut impl Write,
+    passed: Passed,
     message: &[u8],
     refusal: Refusal,
-) -> usize {
-    let fault = refusal.fault;
-    let place = refusal.place;
-    let code = meaning::number(fault) as u64;
-    let numbers = [code, words::REFUSALS + code];
-    let named = fill(out, at, b"REFUSED\n    refusal #, @\n", &numbers);
-    let placed = position(out, named, place.0 as u64, first);
+) -> io::Result<()> {
+    let first = passed.bytes;
+    let Place(place) = refusal.place;
+    let number = meaning::number(refusal.fault);
+    let words = refusals::words(refusal.fault);
+    writeln!(out, "REFUSED")?;
+    writeln!(out, "    refusal {number}, {words}")?;
+    position(out, place, first)?;
     let found = hint::of(message, refusal);
-    let behind = hinted(out, placed, first, found);
-    dump::place(out, behind, message, first, hint::mark(found, place.0))
+    if let Some(hint) = found {
+        hinted(out, first, hint)?;
+    }
+    let byte = found.and_then(Hint::byte).unwrap_or(place);
+    dump::place(out, message, first, byte)
 }
 
 // A message of which `there` bytes are there, and the stream ends; its size is 16 while that is not stated.
-pub(crate) fn cut(
-    out: &mut Out,
-    at: usize,
-    count: u64,
-    first: u64,
-    there: u64,
-    size: u64,
-) -> usize {
-    let numbers = [count, first, there, size, words::of_cut(there)];
-    fill(
+pub(crate) fn cut(out: &mut impl Write, there: u64, size: usize) -> io::Result<()> {
+    let bytes = words::bytes(there);
+    let stated = if there < 16 {
+        "that every message has at least"
+    } else {
+        "that its first 16 bytes state"
+    };
+    writeln!(out, "CUT OFF")?;
+    writeln!(
         out,
-        at,
-        b"message # at byte #: CUT OFF\n    the stream ends after # byte% of the # @\n",
-        &numbers,
+        "    the stream ends after {bytes} of the {size} {stated}"
     )
 }
 
-// A message that the buffer of `room` bytes does not hold.
-pub(crate) fn too_large(
-    out: &mut Out,
-    at: usize,
-    count: u64,
-    first: u64,
-    size: u64,
-    room: u64,
-) -> usize {
-    let numbers = [count, first, size, room];
-    fill(
+// A message of which no more than `room` bytes can be held.
+pub(crate) fn too_large(out: &mut impl Write, size: usize, room: usize) -> io::Result<()> {
+    let size = words::bytes(size as u64);
+    let room = words::bytes(room as u64);
+    writeln!(out, "TOO LARGE FOR THIS PROGRAM")?;
+    writeln!(
         out,
-        at,
-        b"message # at byte #: TOO LARGE FOR THIS PROGRAM\n    its first 16 bytes state # byte%, and this program holds messages of up to # byte%\n",
-        &numbers,
+        "    its first 16 bytes state {size}, and this program holds messages of up to {room}"
     )
 }
 
 // The last line, which opens with what was accepted: the stream ends, `rest` bytes into a message.
-pub(crate) fn ended(out: &mut Out, at: usize, count: u64, first: u64, rest: u64) -> usize {
-    if rest == 0 {
-        let numbers = [count, first, words::of_end(count)];
-        return fill(out, at, b"# message% in # byte%; @\n", &numbers);
+pub(crate) fn ended(out: &mut impl Write, passed: Passed, rest: u64) -> io::Result<()> {
+    if rest != 0 {
+        let bytes = words::bytes(rest);
+        return writeln!(
+            out,
+            "{passed}; the stream ENDS INSIDE A MESSAGE, {bytes} into it"
+        );
     }
-    let numbers = [count, first, rest];
-    fill(
-        out,
-        at,
-        b"# message% in # byte%; the stream ENDS INSIDE A MESSAGE, # byte% into it\n",
-        &numbers,
-    )
+    let end = if passed.messages == 0 {
+        "the stream is empty"
+    } else {
+        "the stream ends where the last one ends"
+    };
+    writeln!(out, "{passed}; {end}")
 }
 
-// The program stops at the byte `first`, with `left` bytes of the stream from there on.
-pub(crate) fn stopped(out: &mut Out, at: usize, count: u64, first: u64, left: u64) -> usize {
-    let numbers = [count, first, first, left];
-    fill(
+// The program stops, with `left` bytes of the stream behind what was accepted.
+pub(crate) fn stopped(out: &mut impl Write, passed: Passed, left: u64) -> io::Result<()> {
+    let place = passed.bytes;
+    let rest = words::bytes(left);
+    writeln!(
         out,
-        at,
-        b"# message% in # byte%; STOPPED at byte #, as nothing vouches for where the next message begins: # byte% from there on not taken apart\n",
-        &numbers,
+        "{passed}; STOPPED at byte {place}, as nothing vouches for where the next message begins: {rest} from there on not taken apart"
     )
 }

@@ -5,28 +5,21 @@ ghost use Rattle.std.specs.Prelude.{◌≡◌};
 ghost use Rattle.meaning.specs.Header.{read_header, lookup as lookup_of};
 ghost use Rattle.lookup.specs.Found.{text_at, found_in};
 
-use meaning::{Entry, Fields, HeaderRead};
+use meaning::{Entry, Fields, Length, Place};
 
 // The entry of a field that holds a text, by its code; none for any other code.
 fn text_entry(fields: Fields, code: u8) -> Entry
     ensures { result ≡ text_at code fields }
 {
-    if code == 1 {
-        fields.object
-    } else if code == 2 {
-        fields.interface
-    } else if code == 3 {
-        fields.member
-    } else if code == 4 {
-        fields.error_name
-    } else if code == 6 {
-        fields.destination
-    } else if code == 7 {
-        fields.sender
-    } else if code == 8 {
-        fields.signature
-    } else {
-        Entry::Absent
+    match code {
+        1 => fields.object,
+        2 => fields.interface,
+        3 => fields.member,
+        4 => fields.error_name,
+        6 => fields.destination,
+        7 => fields.sender,
+        8 => fields.signature,
+        _ => Entry::Absent,
     }
 }
 
@@ -35,11 +28,8 @@ pub fn find(message: &[u8], code: u8) -> Entry
     ensures { result ≡ found_in (read_header message.now) code }
 {
     match unmarshal::unmarshal_header(message) {
-        HeaderRead::Read(header) => {
-            let fields = header.fields;
-            text_entry(fields, code)
-        }
-        HeaderRead::Refused(_) => Entry::Absent,
+        Ok(header) => text_entry(header.fields, code),
+        Err(_) => Entry::Absent,
     }
 }
 
@@ -48,12 +38,7 @@ pub fn lookup<'a>(message: &'a [u8], code: u8, fallback: &'a [u8]) -> &'a [u8]
     ensures { result.now ≡ lookup_of message.now code fallback.now }
 {
     match find(message, code) {
-        Entry::Text(place, length) => {
-            let first = place.0;
-            let past = first + length.0;
-            &message[first..past]
-        }
-        Entry::Number(_) => fallback,
-        Entry::Absent => fallback,
+        Entry::Text(Place(first), Length(long)) => &message[first..first + long],
+        Entry::Number(_) | Entry::Absent => fallback,
     }
 }

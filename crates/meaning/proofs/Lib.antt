@@ -10,6 +10,7 @@ pub mod MessageMeets
 pub mod NumberLaws
 pub mod Paths
 pub mod PlaceLaws
+pub mod Passing
 pub mod Plain
 pub mod SignatureLaws
 pub mod StarredCases

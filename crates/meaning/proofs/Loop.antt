@@ -6,21 +6,20 @@ use mathlib.Core.Path.{◌≡◌, refl, ap, sym, ◌∙◌}
 use lib.ListN.{length}
 use Rattle.meaning.specs.declared.Place.{Place}
 use Rattle.meaning.specs.declared.Refusal.{Refusal}
-use Rattle.meaning.specs.declared.Reached.{Reached}
-use Rattle.meaning.specs.declared.Reached.TheVariants.{At, Refused}
+use Rattle.std.specs.Prelude.{Result, Ok, Err}
 use Rattle.meaning.specs.Reader.{Res, got, fault, R, ret, ◌>>=◌, many, reached_of}
 use Rattle.meaning.proofs.Local.{bind-got, bind-fault, many-end, many-round}
 
-abbrev place_of : Reached → ℕ
-place_of (At q) = q.0
-place_of (Refused y) = 0
+abbrev place_of : Result Place Refusal → ℕ
+place_of (Ok q) = q.0
+place_of (Err y) = 0
 
 -- what a reader's answer was, from where it got to
-pub at-inv : {A : Type 0} (x : Res A) (p : Place) → reached_of x ≡ At p → (v : A) × (x ≡ got v p.0)
+pub at-inv : {A : Type 0} (x : Res A) (p : Place) → reached_of x ≡ Ok p → (v : A) × (x ≡ got v p.0)
 at-inv (got v e) p h = (v, ap (λ (k : ℕ). got v k) (ap place_of h))
 at-inv (fault y) p h = absurd (let z : ◌≡◌ {A = ℕ} 0 1 = cc in omega arith)
 
-pub refused-inv : {A : Type 0} (x : Res A) (y : Refusal) → reached_of x ≡ Refused y → x ≡ fault y
+pub refused-inv : {A : Type 0} (x : Res A) (y : Refusal) → reached_of x ≡ Err y → x ≡ fault y
 refused-inv (got v e) y h = absurd (let z : ◌≡◌ {A = ℕ} 0 1 = cc in omega arith)
 refused-inv {A} (fault z) y h = let w : z ≡ y = cc in ap (λ (u : Refusal). fault u) w
 
@@ -49,12 +48,12 @@ module _ {A : Type 0} (r : R A) (b : List ℕ) where
       go zero e s = absurd (omega arith)
       go (suc m) e s = record { left = m; enough = omega arith; same = s ∙ again m o v p l q }
 
-  pub onward-refused : (n first o : ℕ) (x : Refusal) → Onward r b n first o → o < length b → r b o ≡ fault x → reached_of (many n r b first) ≡ Refused x
+  pub onward-refused : (n first o : ℕ) (x : Refusal) → Onward r b n first o → o < length b → r b o ≡ fault x → reached_of (many n r b first) ≡ Err x
   onward-refused n first o x h l q = go h.left h.enough h.same
     where
-      go : (m : ℕ) → length b ≤ o + m → reached_of (many n r b first) ≡ reached_of (many m r b o) → reached_of (many n r b first) ≡ Refused x
+      go : (m : ℕ) → length b ≤ o + m → reached_of (many n r b first) ≡ reached_of (many m r b o) → reached_of (many n r b first) ≡ Err x
       go zero e s = absurd (omega arith)
       go (suc m) e s = s ∙ ap reached_of (many-round m r b o l ∙ bind-fault r (λ v. many m r >>= λ vs. ret (v ∷ vs)) b o x q)
 
-  pub onward-end : (n first o : ℕ) → Onward r b n first o → length b ≤ o → reached_of (many n r b first) ≡ At (record { 0 = o })
+  pub onward-end : (n first o : ℕ) → Onward r b n first o → length b ≤ o → reached_of (many n r b first) ≡ Ok (record { 0 = o })
   onward-end n first o h l = h.same ∙ ap reached_of (many-end h.left r b o l)

@@ -15,13 +15,15 @@ use Rattle.meaning.specs.declared.MessageType.TheVariants.{Call}
 use Rattle.meaning.specs.ReadMessage.{at_zero, ended, fixed_r, byte_r, one_type, ask, type_r, field_r, table_r, open_r, values_r, body_r, read_message, check_message}
 use Rattle.meaning.specs.declared.Fault.TheVariants.{NotEnoughBytes, NotEnoughBytesForCollection, PaddingContainedData, InvalidBoolean, MissingTerminator, InvalidObjectPath, WrongSignature, VariantTooDeep, InvalidByteOrder, InvalidMessageType, NoSignature, InvalidHeaderField, InvalidHeaderFields, BodyLeft}
 use Rattle.meaning.specs.declared.Order.TheVariants.{Little}
-use Rattle.meaning.specs.declared.Checked.{Checked}
+use Rattle.std.specs.Prelude.{Result}
+use Rattle.meaning.specs.declared.Length.{Length}
+use Rattle.meaning.specs.declared.Refusal.{Refusal}
 
 pub record MessageCase : Type 0 where
   pub buf : List ℕ
-  pub answer : Checked
+  pub answer : Result Length Refusal
 
-abbrev pub try : List ℕ → Checked → MessageCase
+abbrev pub try : List ℕ → Result Length Refusal → MessageCase
 try b r = record { buf = b; answer = r }
 
 -- the first 12 bytes of a message of type k, and of a call, with a body of n bytes
@@ -117,7 +119,7 @@ messages =
     ∷ try (head 1 ++ size4 0x27 ++ both ++ replicate 6 0 ++ 8 ∷ 1 ∷ 0x67 ∷ 0 ∷ 1 ∷ 0x79 ∷ 0 ∷ 0 ∷ 7 ∷ 9 ∷ []) (taken 57)
     ∷ []
 
-abbrev tried : List MessageCase → List Checked
+abbrev tried : List MessageCase → List (Result Length Refusal)
 tried cs = map (λ c. check_message c.buf) cs
 
 pub message-cases : tried messages ≡ map (λ c. c.answer) messages

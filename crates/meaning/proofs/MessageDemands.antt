@@ -13,7 +13,7 @@ use Rattle.meaning.proofs.Local.{short, same_first, cut_short}
 use Rattle.meaning.specs.Types.{Fix, fix, str, path, sig, Ty, base, arr, dict, struct, variant, Of, Var}
 use Rattle.meaning.specs.Signature.{parse, types, all_legal, spell_all}
 use Rattle.meaning.proofs.SignatureLaws.{parse-complete}
-use Rattle.meaning.specs.declared.Checked.TheVariants.{Refused}
+use Rattle.std.specs.Prelude.{Err}
 use Rattle.meaning.proofs.NumberLaws.{Bytes}
 use Rattle.meaning.specs.Value.{Each, OkBase, Ok, OkVar}
 use Rattle.meaning.specs.ReadValue.{taken, checked_of}
@@ -68,7 +68,7 @@ same-messages b d n q e =
     accept d n i.0 (same_first read_message read_message-local b d 0 i.0 n (omega arith) i.1 e)
 
 -- a refusal other than 2 and 3 stays when bytes are appended
-pub grown-messages : (b c : List ℕ) (x : Refusal) → check_message b ≡ Refused x → number_of x.fault ≢ 2 → number_of x.fault ≢ 3 → check_message (b ++ c) ≡ Refused x
+pub grown-messages : (b c : List ℕ) (x : Refusal) → check_message b ≡ Err x → number_of x.fault ≢ 2 → number_of x.fault ≢ 3 → check_message (b ++ c) ≡ Err x
 unfolding check_message
 grown-messages b c x q h2 h3 =
     let i = refused-inv 0 x (read_message b 0) q in
@@ -77,7 +77,7 @@ grown-messages b c x q h2 h3 =
 
 -- a shorter cut of an accepted message gets 2 or 3
 pub cut-messages : (b : List ℕ) (n k : ℕ) → check_message b ≡ taken n → k < n
-    → (x : Refusal) × (check_message (take k b) ≡ Refused x) × ((number_of x.fault ≡ 2) ⊎ (number_of x.fault ≡ 3))
+    → (x : Refusal) × (check_message (take k b) ≡ Err x) × ((number_of x.fault ≡ 2) ⊎ (number_of x.fault ≡ 3))
 unfolding check_message
 cut-messages b n k q l =
     let i = accepted b n q in

@@ -10,8 +10,8 @@ use Rattle.meaning.specs.declared.Order.{Order}
 use Rattle.meaning.specs.declared.Fault.{Fault}
 use Rattle.meaning.specs.declared.Fault.TheVariants.{BadOffset, NotEnoughBytes, NotEnoughBytesForCollection, PaddingContainedData, InvalidBoolean, InvalidUtf8, StringContainsNullByte, MissingTerminator, InvalidObjectPath, InvalidSignature, EmptySignature, EmptyStruct, SignatureTooLong, NestingTooDeep, WrongSignature, VariantTooDeep, InvalidByteOrder, InvalidMessageType, NoSignature, InvalidHeaderField, InvalidHeaderFields, BodyLeft, NoRoom, BadAlignment, TextTooLong, BadArgument}
 use Rattle.meaning.specs.declared.Refusal.{Refusal}
-use Rattle.meaning.specs.declared.Checked.{Checked}
-use Rattle.meaning.specs.declared.Checked.TheVariants.{Accepted, Refused}
+use Rattle.std.specs.Prelude.{Result, Ok, Err}
+use Rattle.meaning.specs.declared.Length.{Length}
 use Rattle.meaning.specs.Faults.{number_of}
 use Rattle.meaning.specs.Types.{Ty}
 use Rattle.meaning.specs.Signature.{parse}
@@ -35,9 +35,9 @@ accepts n = record { number = 0; position = 0; length = n }
 abbrev pub refuses : Refusal → Told
 refuses x = record { number = number_of x.fault; position = x.place.0; length = 0 }
 
-abbrev pub told_of : Checked → Told
-told_of (Accepted n) = accepts n.0
-told_of (Refused x) = refuses x
+abbrev pub told_of : Result Length Refusal → Told
+told_of (Ok n) = accepts n.0
+told_of (Err x) = refuses x
 
 -- "Too short" means 2 and 3
 abbrev pub TooShort : Told → Type 0
@@ -76,17 +76,17 @@ no_zero BadAlignment h = omega (arith, h)
 no_zero TextTooLong h = omega (arith, h)
 no_zero BadArgument h = omega (arith, h)
 
-zero-accepts : (c : Checked) → (told_of c).number ≡ 0 → told_of c ≡ accepts (told_of c).length
-zero-accepts (Accepted n) h = refl
-zero-accepts (Refused x) h = absurd (no_zero x.fault h)
+zero-accepts : (c : Result Length Refusal) → (told_of c).number ≡ 0 → told_of c ≡ accepts (told_of c).length
+zero-accepts (Ok n) h = refl
+zero-accepts (Err x) h = absurd (no_zero x.fault h)
 
-told-taken : (c : Checked) (n : ℕ) → told_of c ≡ accepts n → c ≡ taken n
-told-taken (Accepted m) n h = ap taken (ap (λ (k : Told). k.length) h)
-told-taken (Refused x) n h = absurd (no_zero x.fault (ap (λ (k : Told). k.number) h))
+told-taken : (c : Result Length Refusal) (n : ℕ) → told_of c ≡ accepts n → c ≡ taken n
+told-taken (Ok m) n h = ap taken (ap (λ (k : Told). k.length) h)
+told-taken (Err x) n h = absurd (no_zero x.fault (ap (λ (k : Told). k.number) h))
 
-final-refused : (c : Checked) → (told_of c).number ≢ 0 → (x : Refusal) × (c ≡ Refused x)
-final-refused (Accepted n) h = absurd (h refl)
-final-refused (Refused x) h = (x, refl)
+final-refused : (c : Result Length Refusal) → (told_of c).number ≢ 0 → (x : Refusal) × (c ≡ Err x)
+final-refused (Ok n) h = absurd (h refl)
+final-refused (Err x) h = (x, refl)
 
 -- a call that was answered as a contract allows: lifetimes, arguments, the answer, and the arguments at exit
 pub record Answered {K : Type 0} {A R S : K → Type 0} (contract : (κs : K) → A κs → R κs → S κs → Type 0) : Type 0 where
@@ -103,7 +103,7 @@ pub record ValueAsked : Type 0 where
   pub buf : List ℕ
   pub off : ℕ
 
-abbrev pub check_of : ValueAsked → Checked
+abbrev pub check_of : ValueAsked → Result Length Refusal
 check_of q = check_value q.order q.sig q.buf q.off
 
 -- the demands speak of a signature of one type, and of an offset inside the buffer or at its end
@@ -135,7 +135,7 @@ pub record ValueDemands {C : Type 0} (asked : C → ValueAsked) (told : C → To
       → (asked c).off ≤ m → m < (asked c).off + n → (asked d).buf ≡ take m (asked c).buf → TooShort (told d)
 
 -- a refusal's number and position, of what is known to be told of a check
-refused-for : (k : Told) (c : Checked) → k ≡ told_of c → Final k → (x : Refusal) × (c ≡ Refused x) × (number_of x.fault ≢ 2) × (number_of x.fault ≢ 3)
+refused-for : (k : Told) (c : Result Length Refusal) → k ≡ told_of c → Final k → (x : Refusal) × (c ≡ Err x) × (number_of x.fault ≢ 2) × (number_of x.fault ≢ 3)
 refused-for k c e f =
     let i = final-refused c (λ z. f.0 (ap (λ (j : Told). j.number) e ∙ z)) in
     let n : k.number ≡ number_of i.0.fault = ap (λ (j : Told). j.number) (e ∙ ap told_of i.1) in
@@ -145,7 +145,7 @@ short-told : (k : Told) (x : Refusal) → k ≡ refuses x → ((number_of x.faul
 short-told k x e (inl h) = inl (ap (λ (j : Told). j.number) e ∙ h)
 short-told k x e (inr h) = inr (ap (λ (j : Told). j.number) e ∙ h)
 
-zero-told : (k : Told) (c : Checked) → k ≡ told_of c → k.number ≡ 0 → k ≡ accepts k.length
+zero-told : (k : Told) (c : Result Length Refusal) → k ≡ told_of c → k.number ≡ 0 → k ≡ accepts k.length
 zero-told k c e h =
     e ∙ zero-accepts c (sym (ap (λ (j : Told). j.number) e) ∙ h) ∙ sym (ap (λ (j : Told). accepts j.length) e)
 
@@ -155,7 +155,7 @@ module _ {C : Type 0} (asked : C → ValueAsked) (told : C → Told) (is : (c : 
   taken_of c n h = told-taken (check_of (asked c)) n (sym (is c) ∙ h)
 
   -- a call that keeps all but the buffer
-  kept : (c d : C) (b : List ℕ) (r : Checked) → Keeps (asked c) (asked d) → (asked d).buf ≡ b
+  kept : (c d : C) (b : List ℕ) (r : Result Length Refusal) → Keeps (asked c) (asked d) → (asked d).buf ≡ b
       → check_value (asked c).order (asked c).sig b (asked c).off ≡ r → told d ≡ told_of r
   kept c d b r k e h = let i : check_of (asked d) ≡ r = rw (k.order, k.sig, k.off, e) h in is d ∙ ap told_of i
 
@@ -176,14 +176,14 @@ module _ {C : Type 0} (asked : C → ValueAsked) (told : C → Told) (is : (c : 
     stays = λ c d t p k f more e. (
         let q = asked c in
         let i = refused-for (told c) (check_of q) (is c) f in
-        kept c d (q.buf ++ more) (Refused i.0) k e
+        kept c d (q.buf ++ more) (Err i.0) k e
         (grows q.order q.sig t p.one_type q.buf more q.off i.0 p.inside i.1 i.2 i.3)
         ∙ sym (is c ∙ ap told_of i.1)
         );
     cut = λ c d t p k n m h lo hi e. (
         let q = asked c in
         let i = cuts q.order q.sig t p.one_type q.buf q.off n m p.inside (taken_of c n h) lo hi in
-        short-told (told d) i.0 (kept c d (take m q.buf) (Refused i.0) k e i.1) i.2
+        short-told (told d) i.0 (kept c d (take m q.buf) (Err i.0) k e i.1) i.2
         );
   }
 
@@ -199,7 +199,7 @@ module _ {C : Type 0} (asked : C → List ℕ) (told : C → Told) (is : (c : C)
   message-taken : (c : C) (n : ℕ) → told c ≡ accepts n → check_message (asked c) ≡ taken n
   message-taken c n h = told-taken (check_message (asked c)) n (sym (is c) ∙ h)
 
-  message-told : (d : C) (b : List ℕ) (r : Checked) → asked d ≡ b → check_message b ≡ r → told d ≡ told_of r
+  message-told : (d : C) (b : List ℕ) (r : Result Length Refusal) → asked d ≡ b → check_message b ≡ r → told d ≡ told_of r
   message-told d b r e h = let i : check_message (asked d) ≡ r = rw e h in is d ∙ ap told_of i
 
   pub message-demands : MessageDemands asked told
@@ -212,11 +212,11 @@ module _ {C : Type 0} (asked : C → List ℕ) (told : C → Told) (is : (c : C)
     same = λ c d n h e. message-told d (asked d) (taken n) refl (same-messages (asked c) (asked d) n (message-taken c n h) e);
     stays = λ c d f more e. (
         let i = refused-for (told c) (check_message (asked c)) (is c) f in
-        message-told d (asked c ++ more) (Refused i.0) e (grown-messages (asked c) more i.0 i.1 i.2 i.3)
+        message-told d (asked c ++ more) (Err i.0) e (grown-messages (asked c) more i.0 i.1 i.2 i.3)
         ∙ sym (is c ∙ ap told_of i.1)
         );
     cut = λ c d n m h l e. (
         let i = cut-messages (asked c) n m (message-taken c n h) l in
-        short-told (told d) i.0 (message-told d (take m (asked c)) (Refused i.0) e i.1) i.2
+        short-told (told d) i.0 (message-told d (take m (asked c)) (Err i.0) e i.1) i.2
         );
   }

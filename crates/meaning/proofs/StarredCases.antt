@@ -13,18 +13,19 @@ use Rattle.meaning.specs.Text.{lead, scan, utf8, no_zero, names, is_path}
 use Rattle.meaning.specs.ReadValue.{taken, no, padding, read_fix, sized_r, read_text, read_path, read_sig, accept, read_g, bare_r, base_r, elements, length_r, array_of, array_r, pair_r, read, single, variant_of, read_var, read_top, check_at, check_value}
 use Rattle.meaning.specs.declared.Fault.TheVariants.{NotEnoughBytes, NotEnoughBytesForCollection, PaddingContainedData, InvalidBoolean, MissingTerminator}
 use Rattle.meaning.specs.FixedValue.{fixed_value, read_fixed}
-use Rattle.meaning.specs.declared.FixedRead.TheVariants.{Read}
+use Rattle.std.specs.Prelude.{Result, Ok}
+use Rattle.meaning.specs.declared.Length.{Length}
+use Rattle.meaning.specs.declared.Refusal.{Refusal}
 use Rattle.meaning.specs.declared.FixedValue.TheVariants.{Int16}
 use Rattle.meaning.specs.declared.Order.TheVariants.{Little}
-use Rattle.meaning.specs.declared.Checked.{Checked}
 
 pub record Case : Type 0 where
   pub type : List ℕ
   pub from : ℕ
   pub buf : List ℕ
-  pub answer : Checked
+  pub answer : Result Length Refusal
 
-abbrev pub try : List ℕ → ℕ → List ℕ → Checked → Case
+abbrev pub try : List ℕ → ℕ → List ℕ → Result Length Refusal → Case
 try s off b r = record { type = s; from = off; buf = b; answer = r }
 
 abbrev pub cases : List Case
@@ -59,7 +60,7 @@ unfolding ret here fail ◌>>=◌ check bytes ahead window many digits value sto
 kerns = refl
 
 -- "first kern -1": the value reader on the two bytes from 12 on, where `negsuc 0` is -1
-pub first-kern : read_fixed Little (110 ∷ []) kern_bytes 12 ≡ Read (Int16 (negsuc 0))
+pub first-kern : read_fixed Little (110 ∷ []) kern_bytes 12 ≡ Ok (Int16 (negsuc 0))
 unfolding ret here fail ◌>>=◌ check bytes spell nest shape legal find snoc put put_base step run all_nest parse digits value load gap zeros padding
     read_fix bare_r base_r fixed_value read_fixed
 first-kern = refl

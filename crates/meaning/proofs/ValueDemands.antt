@@ -12,8 +12,8 @@ use Rattle.meaning.specs.Reader.{Res, got, fault, R}
 use Rattle.meaning.proofs.Local.{short, leb-true, same_first, cut_short, le-append}
 use Rattle.meaning.specs.Types.{Ty, Value}
 use Rattle.meaning.specs.Signature.{parse}
-use Rattle.meaning.specs.declared.Checked.TheVariants.{Accepted, Refused}
-use Rattle.meaning.specs.declared.Checked.{Checked}
+use Rattle.std.specs.Prelude.{Result, Ok, Err}
+use Rattle.meaning.specs.declared.Length.{Length}
 use Rattle.meaning.proofs.NumberLaws.{Bytes}
 use Rattle.meaning.specs.Value.{Encodes}
 use Rattle.meaning.specs.ReadValue.{read_top, taken, checked_of, check_at, the, only_one, check_value}
@@ -32,9 +32,9 @@ pub check_value-is : (o : Order) (s : List ℕ) (t : Ty) (b : List ℕ) (off : �
 unfolding check_value
 check_value-is o s t b off e h = rw (e, check_value) (check-at (read_top o t) b off h)
 
-abbrev length_of : Checked → ℕ
-length_of (Accepted l) = l.0
-length_of (Refused x) = 0
+abbrev length_of : Result Length Refusal → ℕ
+length_of (Ok l) = l.0
+length_of (Err x) = 0
 
 pub same_taken : (m n : ℕ) → taken m ≡ taken n → m ≡ n
 same_taken m n h = ap length_of h
@@ -44,7 +44,7 @@ pub taken-inv : {A : Type 0} (off n : ℕ) (x : Res A) → checked_of off x ≡ 
 taken-inv off n (got v e) h = (v, e, refl, same_taken (e - off) n h)
 taken-inv off n (fault x) h = absurd (let z : ◌≡◌ {A = ℕ} 0 1 = cc in omega arith)
 
-pub refused-inv : {A : Type 0} (off : ℕ) (y : Refusal) (x : Res A) → checked_of off x ≡ Refused y → x ≡ fault y
+pub refused-inv : {A : Type 0} (off : ℕ) (y : Refusal) (x : Res A) → checked_of off x ≡ Err y → x ≡ fault y
 refused-inv off y (got v e) h = absurd (let z : ◌≡◌ {A = ℕ} 0 1 = cc in omega arith)
 refused-inv {A} off y (fault z) h = let w : z ≡ y = cc in ap (λ (u : Refusal). fault u) w
 
@@ -91,14 +91,14 @@ module _ (o : Order) (s : List ℕ) (t : Ty) (one_type : only_one (parse s) ≡ 
       let i = accepted b off n h q in
       accept d off n i.0 l (same_first (read_top o t) (read_top-local o t) b d off i.0 (off + n) h i.1 e)
 
-  pub grows : (b c : List ℕ) (off : ℕ) (x : Refusal) → off ≤ length b → check_value o s b off ≡ Refused x → number_of x.fault ≢ 2 → number_of x.fault ≢ 3 → check_value o s (b ++ c) off ≡ Refused x
+  pub grows : (b c : List ℕ) (off : ℕ) (x : Refusal) → off ≤ length b → check_value o s b off ≡ Err x → number_of x.fault ≢ 2 → number_of x.fault ≢ 3 → check_value o s (b ++ c) off ≡ Err x
   grows b c off x h q h2 h3 =
       let i = refused-inv off x (read_top o t b off) (sym (check_value-is o s t b off one_type h) ∙ q) in
       let u = (read_top-local o t).up b c off h (ap short i ∙ is-final (number_of x.fault) h2 h3) in
       check_value-is o s t (b ++ c) off one_type (le-append b c h) ∙ ap (checked_of off) (u ∙ i)
 
   pub cuts : (b : List ℕ) (off n m : ℕ) → off ≤ length b → check_value o s b off ≡ taken n → off ≤ m → m < off + n
-      → (x : Refusal) × (check_value o s (take m b) off ≡ Refused x) × ((number_of x.fault ≡ 2) ⊎ (number_of x.fault ≡ 3))
+      → (x : Refusal) × (check_value o s (take m b) off ≡ Err x) × ((number_of x.fault ≡ 2) ⊎ (number_of x.fault ≡ 3))
   cuts b off n m h q lo hi =
       let i = accepted b off n h q in
       let g = (read_top-local o t).bound b off i.0 (off + n) h i.1 in

@@ -1,13 +1,12 @@
 -- A value of fixed width with its kind: document 01, port order 6, the value reader.
-use Rattle.std.specs.Prelude.{ℕ, ◌-◌, ◌^◌, true, false, List, length, leb, ltb, eqb, ℤ, pos, negsuc}
+use Rattle.std.specs.Prelude.{ℕ, ◌-◌, ◌^◌, true, false, List, length, leb, ltb, eqb, ℤ, pos, negsuc, Result, Ok, Err}
 use Rattle.std.specs.Float.{binary64}
 use Rattle.std.specs.Float.Ieee.{nan_bits, of_bits}
 use Rattle.meaning.specs.declared.Order.{Order}
 use Rattle.meaning.specs.declared.Fault.TheVariants.{BadOffset, BadArgument}
 use Rattle.meaning.specs.declared.FixedValue.{FixedValue}
 use Rattle.meaning.specs.declared.FixedValue.TheVariants.{Byte, Boolean, Int16, Uint16, Int32, Uint32, Int64, Uint64, Double, Nan, UnixFd}
-use Rattle.meaning.specs.declared.FixedRead.{FixedRead}
-use Rattle.meaning.specs.declared.FixedRead.TheVariants.{Read, Refused}
+use Rattle.meaning.specs.declared.Refusal.{Refusal}
 use Rattle.meaning.specs.Faults.{refusal}
 use Rattle.meaning.specs.Reader.{Res, got, fault}
 use Rattle.meaning.specs.Types.{Fix, byte, bool, i16, u16, i32, u32, i64, u64, dbl, fd, fix, str, path, sig, base, arr, dict, struct, variant}
@@ -52,13 +51,13 @@ only_fix (the (dict f k e)) = not_fix
 only_fix (the (struct fs)) = not_fix
 only_fix (the variant) = not_fix
 
-abbrev pub fixed_from : Fix → Res ℕ → FixedRead
-fixed_from c (got n e) = Read (fixed_value c n)
-fixed_from c (fault x) = Refused x
+abbrev pub fixed_from : Fix → Res ℕ → Result FixedValue Refusal
+fixed_from c (got n e) = Ok (fixed_value c n)
+fixed_from c (fault x) = Err x
 
 -- "A fixed-width value is read out with its kind": 26, 1, then the check's own faults in its order
-unfoldable pub read_fixed : Order → List ℕ → List ℕ → ℕ → FixedRead
+unfoldable pub read_fixed : Order → List ℕ → List ℕ → ℕ → Result FixedValue Refusal
 read_fixed o s b off = elim (only_fix (only_one (parse s))) [
-  | the_fix c ↦ elim (leb off (length b)) [ true ↦ fixed_from c (base_r o (fix c) b off) | false ↦ Refused (refusal BadOffset off) ]
-  | not_fix ↦ Refused (refusal BadArgument 0)
+  | the_fix c ↦ elim (leb off (length b)) [ true ↦ fixed_from c (base_r o (fix c) b off) | false ↦ Err (refusal BadOffset off) ]
+  | not_fix ↦ Err (refusal BadArgument 0)
 ]

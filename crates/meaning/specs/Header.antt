@@ -1,12 +1,11 @@
 -- What reading a header hands out, made from the message's parts, and the lookup of a text: document 01, port order 5 and 6.
-use Rattle.std.specs.Prelude.{ℕ, ◌+◌, ◌-◌, Bool, true, false, ◌||◌, List, [], ◌∷◌, length, eqb}
+use Rattle.std.specs.Prelude.{ℕ, ◌+◌, ◌-◌, Bool, true, false, ◌||◌, List, [], ◌∷◌, length, eqb, Result, Ok, Err}
 use Rattle.meaning.specs.declared.Order.{Order}
 use Rattle.meaning.specs.declared.Entry.{Entry}
 use Rattle.meaning.specs.declared.Entry.TheVariants.{Absent, Number, Text}
 use Rattle.meaning.specs.declared.Header.{Header}
 use Rattle.meaning.specs.declared.Fields.{Fields}
-use Rattle.meaning.specs.declared.HeaderRead.{HeaderRead}
-use Rattle.meaning.specs.declared.HeaderRead.TheVariants.{Read, Refused}
+use Rattle.meaning.specs.declared.Refusal.{Refusal}
 use Rattle.meaning.specs.Reader.{Res, got, fault}
 use Rattle.meaning.specs.Types.{fix, str, path, sig, base, arr, dict, struct, variant, Var}
 use Rattle.meaning.specs.Message.{Field, enc_field, text, Message, body_at, body_of}
@@ -72,12 +71,12 @@ header_of m n = record {
   fields = fields_of m;
 }
 
-abbrev pub header_from : Res Message → HeaderRead
-header_from (got m n) = Read (header_of m n)
-header_from (fault x) = Refused x
+abbrev pub header_from : Res Message → Result Header Refusal
+header_from (got m n) = Ok (header_of m n)
+header_from (fault x) = Err x
 
 -- reading a header: a message that is refused has none, and gets the check's refusal
-unfoldable pub read_header : List ℕ → HeaderRead
+unfoldable pub read_header : List ℕ → Result Header Refusal
 read_header b = header_from (read_message b 0)
 
 -- the codes of the fields that hold a text: "a code outside 1 2 3 4 6 7 8" has none

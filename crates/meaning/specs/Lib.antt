@@ -13,3 +13,4 @@ pub mod FixedValue
 pub mod Writers
 pub mod Reads
 pub mod Places
+pub mod Wire

@@ -1,5 +1,5 @@
 -- The stated order for messages: document 01, port order 5. "A message begins at byte 0."
-use Rattle.std.specs.Prelude.{ℕ, ◌+◌, Bool, true, false, ◌||◌, List, [], ◌∷◌, length, take, drop, get_or, leb, eqb}
+use Rattle.std.specs.Prelude.{ℕ, ◌+◌, Bool, true, false, ◌||◌, List, [], ◌∷◌, length, take, drop, get_or, leb, eqb, Result}
 use Rattle.meaning.specs.Reader.{Res, got, fault, stop, R, ret, fail, ◌>>=◌, ◌>>◌, check, bytes, inside, many}
 use Rattle.meaning.specs.Types.{Ty, base, arr, dict, struct, variant}
 use Rattle.meaning.specs.Signature.{code, parse, Parsed, types, refused}
@@ -9,7 +9,8 @@ use Rattle.meaning.specs.ReadValue.{padding, read_sig, accept, length_r, pair_r,
 use Rattle.meaning.specs.Message.{Wants, nothing, exactly, anything, wants, Field, complete, body_signature, Values, Fixed, Message}
 use Rattle.meaning.specs.declared.MessageType.{MessageType}
 use Rattle.meaning.specs.declared.MessageType.TheVariants.{Call, Reply, Error, Signal}
-use Rattle.meaning.specs.declared.Checked.{Checked}
+use Rattle.meaning.specs.declared.Length.{Length}
+use Rattle.meaning.specs.declared.Refusal.{Refusal}
 use Rattle.meaning.specs.declared.Fault.TheVariants.{WrongSignature, InvalidByteOrder, InvalidMessageType, NoSignature, InvalidHeaderField, InvalidHeaderFields, BodyLeft}
 use Rattle.meaning.specs.Faults.{moved}
 use Rattle.meaning.specs.declared.Order.{Order}
@@ -140,5 +141,5 @@ unfoldable pub read_message : R Message
 read_message = at_zero open_r >>= λ h. inside h.0.1 (body_r h.0.0.order h.1.1) >>= λ vs. ret (message_of h vs)
 
 -- the check of a message: its length, or the refusal
-unfoldable pub check_message : List ℕ → Checked
+unfoldable pub check_message : List ℕ → Result Length Refusal
 check_message b = checked_of 0 (read_message b 0)

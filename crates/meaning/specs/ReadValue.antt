@@ -1,5 +1,5 @@
 -- The stated order for values: document 01, port order 2 to 4. Each reader refuses with the first fault of that order.
-use Rattle.std.specs.Prelude.{ℕ, zero, suc, ◌+◌, ◌-◌, ◌%◌, Bool, true, false, List, [], ◌∷◌, length, take, drop, leb, ltb, eqb}
+use Rattle.std.specs.Prelude.{ℕ, zero, suc, ◌+◌, ◌-◌, ◌%◌, Bool, true, false, List, [], ◌∷◌, length, take, drop, leb, ltb, eqb, Result, Ok, Err}
 use Rattle.meaning.specs.Reader.{Res, got, fault, R, ret, here, fail, ◌>>=◌, ◌>>◌, check, bytes, ahead, within, many}
 use Rattle.meaning.specs.Types.{Fix, byte, bool, i16, u16, i32, u32, i64, u64, dbl, fd, Base, fix, str, path, sig, Ty, base, arr, dict, struct, variant, Tys, one, more, Raw, Of, Ofs, Var, Value, size, align_base, align, whole}
 use Rattle.meaning.specs.Signature.{parse, Parsed, types, refused}
@@ -7,10 +7,8 @@ use Rattle.meaning.specs.Number.{load, gap, zeros}
 use Rattle.meaning.specs.Text.{utf8, no_zero, is_path}
 use Rattle.meaning.specs.declared.Fault.{Fault}
 use Rattle.meaning.specs.declared.Fault.TheVariants.{BadOffset, NotEnoughBytes, PaddingContainedData, InvalidBoolean, InvalidUtf8, StringContainsNullByte, MissingTerminator, InvalidObjectPath, EmptySignature, WrongSignature, VariantTooDeep, BadArgument}
-use Rattle.meaning.specs.declared.Checked.{Checked}
-use Rattle.meaning.specs.declared.Checked.TheVariants.{Accepted, Refused}
-use Rattle.meaning.specs.declared.Counted.{Counted}
-use Rattle.meaning.specs.declared.Counted.TheVariants as counted
+use Rattle.meaning.specs.declared.Length.{Length}
+use Rattle.meaning.specs.declared.Refusal.{Refusal}
 use Rattle.meaning.specs.Faults.{refusal}
 use Rattle.meaning.specs.declared.Order.{Order}
 
@@ -168,18 +166,18 @@ unfoldable pub read_top : Order → (t : Ty) → R (Value t)
 read_top o t = read o (read_var o 16) t
 
 -- What a check answers: the length of what was read, or the refusal
-abbrev pub taken : ℕ → Checked
-taken n = Accepted (record { 0 = n })
+abbrev pub taken : ℕ → Result Length Refusal
+taken n = Ok (record { 0 = n })
 
-abbrev pub no : Fault → ℕ → Checked
-no f p = Refused (refusal f p)
+abbrev pub no : Fault → ℕ → Result Length Refusal
+no f p = Err (refusal f p)
 
-abbrev pub checked_of : {A : Type 0} → ℕ → Res A → Checked
+abbrev pub checked_of : {A : Type 0} → ℕ → Res A → Result Length Refusal
 checked_of off (got v e) = taken (e - off)
-checked_of off (fault x) = Refused x
+checked_of off (fault x) = Err x
 
 -- 1: "offset or writing place is above the buffer's length"; its position is the offset
-unfoldable pub check_at : {A : Type 0} → R A → List ℕ → ℕ → Checked
+unfoldable pub check_at : {A : Type 0} → R A → List ℕ → ℕ → Result Length Refusal
 check_at r b off = elim (leb off (length b)) [ true ↦ checked_of off (r b off) | false ↦ no BadOffset off ]
 
 -- 26: "the caller's signature isn't exactly one type"
@@ -194,14 +192,14 @@ only_one (types (e ∷ d ∷ ds)) = not1
 only_one (refused k) = not1
 
 -- "Order for a value: 26 (position 0), 1 (position: the offset), then the walk"
-unfoldable pub check_value : Order → List ℕ → List ℕ → ℕ → Checked
+unfoldable pub check_value : Order → List ℕ → List ℕ → ℕ → Result Length Refusal
 check_value o s b off = elim (only_one (parse s)) [ the t ↦ check_at (read_top o t) b off | not1 ↦ no BadArgument 0 ]
 
 -- "A bare signature check answers the number of types, or a refusal at position 0"; "Above 255 bytes 13; empty 11"
-abbrev pub counted_of : Parsed → Counted
-counted_of (types ts) = counted.Types (length ts)
-counted_of (refused k) = counted.Refused (refusal k 0)
+abbrev pub counted_of : Parsed → Result ℕ Refusal
+counted_of (types ts) = Ok (length ts)
+counted_of (refused k) = Err (refusal k 0)
 
-unfoldable pub check_signature : List ℕ → Counted
-check_signature [] = counted.Refused (refusal EmptySignature 0)
+unfoldable pub check_signature : List ℕ → Result ℕ Refusal
+check_signature [] = Err (refusal EmptySignature 0)
 check_signature (c ∷ cs) = counted_of (parse (c ∷ cs))

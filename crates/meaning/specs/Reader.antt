@@ -1,9 +1,8 @@
 -- Readers over a byte list, and the combinators that every reader of this crate is made of.
-use Rattle.std.specs.Prelude.{ℕ, zero, suc, ◌+◌, Bool, true, false, List, [], ◌∷◌, length, take, drop, leb}
+use Rattle.std.specs.Prelude.{ℕ, zero, suc, ◌+◌, Bool, true, false, List, [], ◌∷◌, length, take, drop, leb, Result, Ok, Err}
 use Rattle.meaning.specs.declared.Refusal.{Refusal}
 use Rattle.meaning.specs.declared.Fault.{Fault}
-use Rattle.meaning.specs.declared.Reached.{Reached}
-use Rattle.meaning.specs.declared.Reached.TheVariants.{At, Refused}
+use Rattle.meaning.specs.declared.Place.{Place}
 use Rattle.meaning.specs.Faults.{refusal}
 use Rattle.meaning.specs.declared.Fault.TheVariants.{NotEnoughBytes, NotEnoughBytesForCollection}
 
@@ -16,9 +15,9 @@ abbrev pub stop : {A : Type 0} → Fault → ℕ → Res A
 stop k p = fault (refusal k p)
 
 -- the place that a reader gets to, whatever it read: what code that only checks hands on
-abbrev pub reached_of : {A : Type 0} → Res A → Reached
-reached_of (got v e) = At (record { 0 = e })
-reached_of (fault x) = Refused x
+abbrev pub reached_of : {A : Type 0} → Res A → Result Place Refusal
+reached_of (got v e) = Ok (record { 0 = e })
+reached_of (fault x) = Err x
 
 -- A reader sees a list of bytes, and starts at an offset
 abbrev pub R : Type 0 → Type 0

@@ -1,10 +1,10 @@
 -- What a write answers and what it leaves in the buffer: document 01, "Order for a write", and port order 6.
-use Rattle.std.specs.Prelude.{ℕ, ◌+◌, ◌^◌, Bool, true, false, ◌||◌, List, ◌++◌, length, take, drop, replicate, leb, ltb, eqb}
+use Rattle.std.specs.Prelude.{ℕ, ◌+◌, ◌^◌, Bool, true, false, ◌||◌, List, ◌++◌, length, take, drop, replicate, leb, ltb, eqb, Result, Ok, Err}
 use Rattle.meaning.specs.declared.Order.{Order}
 use Rattle.meaning.specs.declared.Fault.{Fault}
 use Rattle.meaning.specs.declared.Fault.TheVariants.{BadOffset, InvalidUtf8, StringContainsNullByte, NoRoom, BadAlignment, TextTooLong}
-use Rattle.meaning.specs.declared.Written.{Written}
-use Rattle.meaning.specs.declared.Written.TheVariants.{Done, Refused}
+use Rattle.meaning.specs.declared.Place.{Place}
+use Rattle.meaning.specs.declared.Refusal.{Refusal}
 use Rattle.meaning.specs.Faults.{refusal}
 use Rattle.meaning.specs.Number.{store, gap}
 use Rattle.meaning.specs.Signature.{parse, Parsed, types, refused}
@@ -13,17 +13,17 @@ use Rattle.meaning.specs.Value.{sized}
 
 -- a write's answer, and every byte of the buffer after it
 pub record Wrote : Type 0 where
-  pub answer : Written
+  pub answer : Result Place Refusal
   pub after : List ℕ
 
 -- "the position of each is the place"; "Refused, a write leaves buffer and place untouched"
 abbrev pub unwritten : Fault → List ℕ → ℕ → Wrote
-unwritten f b at = record { answer = Refused (refusal f at); after = b }
+unwritten f b at = record { answer = Err (refusal f at); after = b }
 
 -- "done, it alters exactly the bytes it writes and moves the place past them"; 23: "fewer bytes lie after the place than the write needs"
 unfoldable pub put_at : List ℕ → ℕ → List ℕ → Wrote
 put_at b at xs = elim (leb (at + length xs) (length b)) [
-  | true ↦ record { answer = Done (record { 0 = at + length xs }); after = take at b ++ xs ++ drop (at + length xs) b }
+  | true ↦ record { answer = Ok (record { 0 = at + length xs }); after = take at b ++ xs ++ drop (at + length xs) b }
   | false ↦ unwritten NoRoom b at
 ]
 

@@ -2,87 +2,66 @@
 // What they mean stands in specs/.
 #![tactic(auto)]
 
+pub mod wire;
+
 ghost use Rattle.std.specs.Prelude.{◌≡◌};
 ghost use Rattle.meaning.specs.Faults.{number_of, refusal, moved};
 ghost use Rattle.meaning.specs.Message.{kind_code};
 
-#[derive(Clone, Copy)]
+#[derive(Clone, Copy, Debug, PartialEq, Eq)]
 pub enum Order {
     Little,
     Big,
 }
 
 // A place in a buffer, counted from its first byte.
-#[derive(Clone, Copy)]
+#[derive(Clone, Copy, Debug, PartialEq, Eq)]
 pub struct Place(pub usize);
 
 // A number of bytes.
-#[derive(Clone, Copy)]
+#[derive(Clone, Copy, Debug, PartialEq, Eq)]
 pub struct Length(pub usize);
 
-// Why something is refused, in the order of document 01's numbers.
-#[derive(Clone, Copy)]
+// A part of a buffer: where it begins, and how long it is.
+#[derive(Clone, Copy, Debug, PartialEq, Eq)]
+pub struct Part(pub Place, pub Length);
+
+// Why something is refused, under document 01's numbers.
+#[derive(Clone, Copy, Debug, PartialEq, Eq)]
 pub enum Fault {
-    BadOffset,
-    NotEnoughBytes,
-    NotEnoughBytesForCollection,
-    PaddingContainedData,
-    InvalidBoolean,
-    InvalidUtf8,
-    StringContainsNullByte,
-    MissingTerminator,
-    InvalidObjectPath,
-    InvalidSignature,
-    EmptySignature,
-    EmptyStruct,
-    SignatureTooLong,
-    NestingTooDeep,
-    WrongSignature,
-    VariantTooDeep,
-    InvalidByteOrder,
-    InvalidMessageType,
-    NoSignature,
-    InvalidHeaderField,
-    InvalidHeaderFields,
-    BodyLeft,
-    NoRoom,
-    BadAlignment,
-    TextTooLong,
-    BadArgument,
+    BadOffset = 1,
+    NotEnoughBytes = 2,
+    NotEnoughBytesForCollection = 3,
+    PaddingContainedData = 4,
+    InvalidBoolean = 5,
+    InvalidUtf8 = 6,
+    StringContainsNullByte = 7,
+    MissingTerminator = 8,
+    InvalidObjectPath = 9,
+    InvalidSignature = 10,
+    EmptySignature = 11,
+    EmptyStruct = 12,
+    SignatureTooLong = 13,
+    NestingTooDeep = 14,
+    WrongSignature = 15,
+    VariantTooDeep = 16,
+    InvalidByteOrder = 17,
+    InvalidMessageType = 18,
+    NoSignature = 19,
+    InvalidHeaderField = 20,
+    InvalidHeaderFields = 21,
+    BodyLeft = 22,
+    NoRoom = 23,
+    BadAlignment = 24,
+    TextTooLong = 25,
+    BadArgument = 26,
 }
 
-#[derive(Clone, Copy)]
+// The error of every reader, check and writer here: their answers are `Result`s.
+#[derive(Clone, Copy, Debug, PartialEq, Eq)]
 pub struct Refusal {
     pub fault: Fault,
     pub place: Place,
-}
-
-// What a check answers: how long the accepted thing is.
-#[derive(Clone, Copy)]
-pub enum Checked {
-    Accepted(Length),
-    Refused(Refusal),
-}
-
-// Where a reader gets to inside a buffer: the place past what it read.
-#[derive(Clone, Copy)]
-pub enum Reached {
-    At(Place),
-    Refused(Refusal),
-}
-
-// What a check of a bare signature answers: how many types it spells.
-#[derive(Clone, Copy)]
-pub enum Counted {
-    Types(usize),
-    Refused(Refusal),
-}
-
-// What reading an integer answers.
-#[derive(Clone, Copy)]
-pub enum Integer {
-    Read(u64),
-    Refused(Refusal),
 }
 
 // A value of fixed width with its kind. No double here is a NaN: a NaN stands by its bits.
@@ -101,22 +80,17 @@ pub enum FixedValue {
     UnixFd(u32),
 }
 
-#[derive(Clone, Copy)]
-pub enum FixedRead {
-    Read(FixedValue),
-    Refused(Refusal),
-}
-
-#[derive(Clone, Copy)]
+// Under the numbers by which a message states its type.
+#[derive(Clone, Copy, Debug, PartialEq, Eq)]
 pub enum MessageType {
-    Call,
-    Reply,
-    Error,
-    Signal,
+    Call = 1,
+    Reply = 2,
+    Error = 3,
+    Signal = 4,
 }
 
 // A header field: not there, a number, or a text by its place in the message and its length.
-#[derive(Clone, Copy)]
+#[derive(Clone, Copy, Debug, PartialEq, Eq)]
 pub enum Entry {
     Absent,
     Number(u32),
@@ -150,51 +124,11 @@ pub struct Header {
     pub fields: Fields,
 }
 
-#[derive(Clone, Copy)]
-pub enum HeaderRead {
-    Read(Header),
-    Refused(Refusal),
-}
-
-// What a write answers: the place past what was written.
-#[derive(Clone, Copy)]
-pub enum Written {
-    Done(Place),
-    Refused(Refusal),
-}
-
 // Document 01's number.
 pub fn number(f: Fault) -> u8
     ensures { result ≡ number_of f }
 {
-    match f {
-        Fault::BadOffset => 1,
-        Fault::NotEnoughBytes => 2,
-        Fault::NotEnoughBytesForCollection => 3,
-        Fault::PaddingContainedData => 4,
-        Fault::InvalidBoolean => 5,
-        Fault::InvalidUtf8 => 6,
-        Fault::StringContainsNullByte => 7,
-        Fault::MissingTerminator => 8,
-        Fault::InvalidObjectPath => 9,
-        Fault::InvalidSignature => 10,
-        Fault::EmptySignature => 11,
-        Fault::EmptyStruct => 12,
-        Fault::SignatureTooLong => 13,
-        Fault::NestingTooDeep => 14,
-        Fault::WrongSignature => 15,
-        Fault::VariantTooDeep => 16,
-        Fault::InvalidByteOrder => 17,
-        Fault::InvalidMessageType => 18,
-        Fault::NoSignature => 19,
-        Fault::InvalidHeaderField => 20,
-        Fault::InvalidHeaderFields => 21,
-        Fault::BodyLeft => 22,
-        Fault::NoRoom => 23,
-        Fault::BadAlignment => 24,
-        Fault::TextTooLong => 25,
-        Fault::BadArgument => 26,
-    }
+    f as u8
 }
 
 // Every refusal of the library is made here.
@@ -211,9 +145,8 @@ pub fn refuse(fault: Fault, at: usize) -> Refusal
 pub fn moved(refusal: Refusal, to: usize) -> Refusal
     ensures { result ≡ moved to refusal }
 {
-    let kept = refusal.fault;
     Refusal {
-        fault: kept,
+        fault: refusal.fault,
         place: Place(to),
     }
 }
@@ -222,10 +155,5 @@ pub fn moved(refusal: Refusal, to: usize) -> Refusal
 pub fn kind_code(kind: MessageType) -> u8
     ensures { result ≡ kind_code kind }
 {
-    match kind {
-        MessageType::Call => 1,
-        MessageType::Reply => 2,
-        MessageType::Error => 3,
-        MessageType::Signal => 4,
-    }
+    kind as u8
 }

@@ -1,10 +1,10 @@
 -- Demands 2 and 3 of the functions that C and Rust call, in the numbers that they get: of every call whose answer meets the function's contract, as
 -- the checker generates it.
 use mathlib.Core.Path.{◌≡◌, refl, ap, ◌∙◌}
-use Rattle.meaning.specs.declared.Checked.{Checked}
-use Rattle.meaning.specs.declared.Checked.TheVariants.{Accepted, Refused}
-use Rattle.meaning.specs.declared.HeaderRead.{HeaderRead}
-use Rattle.meaning.specs.declared.HeaderRead.TheVariants as header_read
+use Rattle.std.specs.Prelude.{Result, Ok, Err}
+use Rattle.meaning.specs.declared.Length.{Length}
+use Rattle.meaning.specs.declared.Refusal.{Refusal}
+use Rattle.meaning.specs.declared.Header.{Header}
 use Rattle.meaning.specs.ReadMessage.{check_message}
 use Rattle.meaning.specs.Header.{read_header}
 use Rattle.meaning.proofs.Promises.{Told, told_of, Answered, ValueAsked, check_of, ValueDemands, value-demands, MessageDemands, message-demands}
@@ -19,13 +19,13 @@ use Rattle.millettie.proofs.mt_read_header.Reads as mt-read-header
 abbrev pub told_in : MtAnswer → Told
 told_in a = record { number = a.number; position = a.position; length = a.length }
 
-told-checked : (c : Checked) → told_in (answer_of c) ≡ told_of c
-told-checked (Accepted n) = refl
-told-checked (Refused x) = refl
+told-checked : (c : Result Length Refusal) → told_in (answer_of c) ≡ told_of c
+told-checked (Ok n) = refl
+told-checked (Err x) = refl
 
-told-header : (h : HeaderRead) → told_in (read_of h).answer ≡ told_header h
-told-header (header_read.Read h) = refl
-told-header (header_read.Refused x) = refl
+told-header : (h : Result Header Refusal) → told_in (read_of h).answer ≡ told_header h
+told-header (Ok h) = refl
+told-header (Err x) = refl
 
 abbrev pub ValueCall : Type 0
 ValueCall = Answered mt-check-value.Learnt

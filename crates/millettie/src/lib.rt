@@ -13,7 +13,7 @@ ghost use Rattle.stream.specs.Next.{next_of};
 ghost use Rattle.millettie.specs.Fixed.{fixed_of};
 ghost use Rattle.millettie.specs.Framed.{length_in, framed_of, interface};
 
-use meaning::{FixedRead, Order, Place};
+use meaning::{Order, Place};
 use stream::Next;
 use structs::{MtAnswer, MtHeader, MtPart};
 use unmarshal::check_message;
@@ -108,12 +108,12 @@ pub extern "C" fn mt_read_fixed(big: bool, offset: usize, buf: &[u8], sig: &[u8]
     ensures { result ≡ fixed_of (read_fixed (order_of big) sig.now buf.now offset) (check_value (order_of big) sig.now buf.now offset) }
 {
     match read::unmarshal_fixed(structs::order(big), Place(offset), buf, sig) {
-        FixedRead::Read(value) => MtFixed {
+        Ok(value) => MtFixed {
             answer: mt_check_value(big, offset, buf, sig),
             kind: read::letter(value),
             bits: read::bits(value),
         },
-        FixedRead::Refused(refusal) => MtFixed {
+        Err(refusal) => MtFixed {
             answer: structs::refused(refusal),
             kind: 0,
             bits: 0,

@@ -1,127 +1,169 @@
--- What one turn of a loop over a word does, by the definitions.
-use Prim.Native.Nat.{ℕ, zero, suc, ◌+◌, ◌-◌, ◌*◌, ◌/◌, ◌%◌, ◌^◌, ◌≤◌, ◌<◌}
-use native.Mathlib.Omega.{arith}
-use native.Mathlib.Numerals.{add-one}
-use native.Mathlib.Nat.{zero-add}
-use mathlib.Core.Bool.{Bool, true, false, ◌&&◌, not, cond}
-use mathlib.Core.Path.{◌≡◌, refl, ap, sym, ◌∙◌}
-use mathlib.Core.List.{List, [], ◌∷◌}
-use lib.Dec.{leb, ltb, eqb}
-use lib.ListN.{length, take, drop, get_or, set, length-drop, drop_of_length-le}
-use lib.Seq.{sets, drop-cons, drop-drop, drop-set-lt, get_or-drop, take_all, take-length, length-sets, length-take-le}
-use borrow.Author.Tests.{ltb-true, leb-true, le-ltb, lt-ltb, le-leb, eq-eqb, ne_eqb}
-use Rattle.question_lines.specs.Digits.{digit_of, all_digits, value_from, pairs}
-use Rattle.question_lines.specs.declared.Taken.{Taken}
-use Rattle.question_lines.specs.declared.Taken.TheVariants.{Bytes}
-use Rattle.std.specs.List.{between}
+-- What the answers of this crate cite: of a search, of decimal numbers, and of pairs of digits.
+use Rattle.std.proofs.Common.{◌≡◌, ℕ, zero, suc, ◌+◌, ◌-◌, ◌*◌, ◌/◌, ◌%◌, ◌^◌, ◌≤◌, ◌<◌, Bool, true, false, not, cond, ltb, leb, eqb}
+use Rattle.std.proofs.Common.{List, [], ◌∷◌, Option, Some, None, length, take, drop, get_or, set, inl, inr, refl, ap, sym, ◌∙◌, arith}
+use Rattle.std.proofs.Common.{zero-add, add-one, length-drop, length-take-le, drop-drop, get_or-take, get_or-drop, ltb-true, leb-true, le-ltb, lt-ltb, ne_eqb}
+use Rattle.std.specs.Char.{digit_value}
+use Rattle.std.specs.List.{between, position, copy_within}
+use Rattle.std.specs.Simd.{first_chunks}
+use Rattle.std.proofs.Math.Seq.{take-length, length-sets}
+use Rattle.std.proofs.lemmas.Bool.{cases_eq}
+use Rattle.std.proofs.lemmas.Bool.Decides.{Decides-eqb, nat_tests}
+use Rattle.std.proofs.lemmas.List.{drop_more, at_drop_more, at_drop_all}
+use Rattle.std.proofs.lemmas.List.Edits.{sets, sets-eq}
+use Rattle.std.proofs.lemmas.List.Sums.{prefix_len-le-length, AllPass-from_list_all}
+use Rattle.std.proofs.lemmas.Option.{cond_some}
 use Rattle.std.proofs.lemmas.Slice.{between_from_start}
-use Rattle.std.proofs.lemmas.List.Edits.{between_none}
-use Rattle.question_lines.specs.Words.{index_of, occurrences, Took, unless, taken_of}
-use Rattle.question_lines.specs.declared.Number.{Number}
-use Rattle.question_lines.specs.declared.Number.TheVariants.{Is, Bad}
+use Rattle.std.proofs.lemmas.Slice.Eq.{slice_eq-Decides}
+use Rattle.std.specs.Cmp.Lexicographic.{pointwise}
+use Rattle.question_lines.specs.Digits.{digit_of, all_digits, value_from, pairs}
+use Rattle.question_lines.specs.Words.{index_of, number_of, Took, unless, taken_of, moved_down}
 
-next : (s : List ℕ) (i : ℕ) → i < length s → drop i s ≡ get_or s i 0 ∷ drop (i + 1) s
-next s i h = rw add-one (drop-cons s i 0 h)
+-- what a search finds, and where it finds nothing
+pub found_at : (b : ℕ) (s : List ℕ) (i : ℕ) → position (λ x. eqb x b) s ≡ Some i → index_of b s ≡ i
+found_at b s i p = (cond_some _ _ _ p).1
 
-pub all-step : (base : ℕ) (s : List ℕ) (i : ℕ) → i < length s → all_digits base (drop i s) ≡ (ltb (digit_of (get_or s i 0)) base && all_digits base (drop (i + 1) s))
-unfolding all_digits
-all-step base s i h = rw (next s i h)
-
-pub value-step : (n : ℕ) (s : List ℕ) (i : ℕ) → i < length s → value_from n (drop i s) ≡ value_from (n * 10 + digit_of (get_or s i 0)) (drop (i + 1) s)
-unfolding value_from
-value-step n s i h = rw (next s i h)
-
-pub count-step : (b : ℕ) (s : List ℕ) (i : ℕ) → i < length s → occurrences b (drop i s) ≡ cond (eqb (get_or s i 0) b) 1 0 + occurrences b (drop (i + 1) s)
-unfolding occurrences
-count-step b s i h = rw (next s i h)
-
--- digits only make a number larger
-pub grows : (n : ℕ) (s : List ℕ) → n ≤ value_from n s
-unfolding value_from
-grows n [] = omega arith
-grows n (c ∷ cs) = omega (arith, grows (n * 10 + digit_of c) cs)
-
-pub pairs-turn : (l e s : List ℕ) (i : ℕ) → 2 * i + 1 < length s → sets l i (pairs (drop (2 * i) s)) ≡ e
-    → sets (set l i (digit_of (get_or s (2 * i) 0) * 16 + digit_of (get_or s (2 * i + 1) 0))) (i + 1) (pairs (drop (2 * (i + 1)) s)) ≡ e
-unfolding pairs
-pairs-turn l e s i h p =
-    let q : 2 * (i + 1) ≡ 2 * i + 1 + 1 = omega arith in
-    let d : drop (2 * i) s ≡ get_or s (2 * i) 0 ∷ get_or s (2 * i + 1) 0 ∷ drop (2 * i + 1 + 1) s =
-    next s (2 * i) (omega arith) ∙ ap (λ (t : List ℕ). get_or s (2 * i) 0 ∷ t) (next s (2 * i + 1) h) in
-    rw (q, add-one i) (rw d at p)
-
-pub not-empty : (s : List ℕ) → (length s ≡ 0 → ⊥) → ltb 0 (length s) ≡ true
-not-empty s h = lt-ltb 0 (length s) (omega arith)
-
-both : (a b : Bool) → (a && b) ≡ true → (a ≡ true) × (b ≡ true)
-both true b p = (refl, p)
-both false b p = let z : ◌≡◌ {A = ℕ} 0 1 = cc in absurd (omega arith)
-
-pub digit_at : (base : ℕ) (s : List ℕ) (i : ℕ) → all_digits base s ≡ true → i < length s → digit_of (get_or s i 0) < base
-unfolding all_digits
-digit_at base [] i p h = absurd (omega arith)
-digit_at base (c ∷ cs) zero p h = ltb-true _ _ (both (ltb (digit_of c) base) (all_digits base cs) p).0
-digit_at base (c ∷ cs) (suc i) p h = digit_at base cs i (both (ltb (digit_of c) base) (all_digits base cs) p).1 (omega arith)
-
--- what the decimal digits from a place on lead to, and the whole number
-abbrev pub Fitting : List ℕ → Number
-Fitting s = cond (ltb (value_from 0 s) (2 ^ 64)) (Is (value_from 0 s)) Bad
-
-pub too_large : (n : ℕ) (r s : List ℕ) → 2 ^ 64 ≤ n → value_from n r ≡ value_from 0 s → Bad ≡ Fitting s
-too_large n r s h p = rw (le-ltb (value_from 0 s) (2 ^ 64) (omega (arith, grows n r, p)))
-
-pub read_whole : (n : ℕ) (s : List ℕ) → n < 2 ^ 64 → n ≡ value_from 0 s → Is n ≡ Fitting s
-read_whole n s h p = rw (← p, lt-ltb n (2 ^ 64) h)
-
--- one byte further on in a search
-pub find-step : (b i to : ℕ) (s : List ℕ) → i < to → to ≤ length s
-    → index_of b (between i to s) ≡ cond (not (eqb (get_or s i 0) b)) (1 + index_of b (between (i + 1) to s)) 0
-find-step b i to s h w =
-    let n : to - i ≡ suc (to - (i + 1)) = omega arith in
-    rw (n, next s i (omega arith))
-
--- no byte is left to search
-pub find-end : (b i to e : ℕ) (s : List ℕ) → i ≡ to → i + index_of b (between i to s) ≡ e → to ≡ e
-find-end b i to e s h p =
-    let q : to + index_of b (between to to s) ≡ e = rw h at p in
-    omega (arith, rw between_none at q)
+pub found_none : (b : ℕ) (s : List ℕ) → position (λ x. eqb x b) s ≡ None → index_of b s ≡ length s
+found_none b s p =
+    let within = prefix_len-le-length (λ x. not (eqb x b)) s in
+    grind (arith, nat_tests)
 
 -- a search of all of a slice
 pub found : (b : ℕ) (s : List ℕ) (r : ℕ) → r ≡ 0 + index_of b (between 0 (length s) s) → r ≡ index_of b s
 found b s r p = p ∙ rw (zero-add, between_from_start, take-length)
 
-pub from_on : (s : List ℕ) (n : ℕ) → take (length s - n) (drop n s) ≡ drop n s
-from_on s n = take_all (length s - n) (drop n s) (simp length-drop (omega arith))
+-- the library's copy to the front
+pub moved : (s : List ℕ) (from to : ℕ) → from ≤ to → to ≤ length s → copy_within s from to 0 ≡ moved_down from to s
+moved s from to order within =
+    let part = take (to - from) (drop from s) in
+    let long : length part ≡ to - from = length-take-le (to - from) (drop from s) (simp length-drop (omega arith)) in
+    sym (sets-eq part s 0 (omega arith) ∙ rw long)
 
-pub nothing_left : (s : List ℕ) (m n : ℕ) → length s ≤ m → length s ≤ n → drop m s ≡ drop n s
-nothing_left s m n g h = rw (drop_of_length-le s {i = m} g, drop_of_length-le s {i = n} h)
+-- the library's decimal digits are those of this crate
+same_digit : (c : ℕ) → digit_value c < 10 → digit_of c ≡ digit_value c
+same_digit c h = grind (arith, nat_tests)
 
--- one or more pairs of bytes that the buffer has room for: what is left to test is that they are digits
-pub of-pairs : (s out : List ℕ) → (length s ≡ 1 → ⊥) → (length s ≡ 0 → ⊥) → length s % 2 ≡ 0 → length s / 2 ≤ length out
-    → taken_of s out ≡ unless (all_digits 16 s) out (record { answer = Bytes (length s / 2); after = sets out 0 (pairs s) })
+no_other_digit : (c : ℕ) → 10 ≤ digit_value c → 10 ≤ digit_of c
+no_other_digit c h = grind (arith, nat_tests)
+
+-- digits only make a number larger
+grows : (n : ℕ) (s : List ℕ) → n ≤ value_from n s
+unfolding value_from
+grows n [] = omega arith
+grows n (c ∷ cs) = omega (arith, grows (n * 10 + digit_of c) cs)
+
+-- the number that digits behind another number lead to, if they are digits and 64 bits hold it
+abbrev pub rest_of : ℕ → List ℕ → Option ℕ
+rest_of n s = cond (all_digits 10 s) (cond (ltb (value_from n s) (2 ^ 64)) (Some (value_from n s)) None) None
+
+pub rest_of_all : (s : List ℕ) → 0 < length s → number_of s ≡ rest_of 0 s
+unfolding number_of
+rest_of_all s h = rw (lt-ltb 0 (length s) h)
+
+pub rest_of_none : (n : ℕ) (s : List ℕ) (i : ℕ) → n < 2 ^ 64 → length s ≤ i → rest_of n (drop i s) ≡ Some n
+unfolding value_from
+rest_of_none n s i h past = at_drop_all (rest_of n) s i past ∙ rw (lt-ltb n (2 ^ 64) h)
+
+pub rest_at_digit : (n : ℕ) (s : List ℕ) (i : ℕ) → i < length s → digit_value (get_or s i 0) < 10
+    → rest_of n (drop i s) ≡ rest_of (n * 10 + digit_value (get_or s i 0)) (drop (i + 1) s)
+unfolding value_from
+rest_at_digit n s i h d =
+    let c = get_or s i 0 in
+    let below : ltb (digit_of c) 10 ≡ true = lt-ltb (digit_of c) 10 (omega (arith, same_digit c d)) in
+    at_drop_more (rest_of n) s i 0 h ∙ rw (below, ← same_digit c d)
+
+pub rest_at_other : (n : ℕ) (s : List ℕ) (i : ℕ) → i < length s → (digit_value (get_or s i 0) < 10 → ⊥) → rest_of n (drop i s) ≡ None
+rest_at_other n s i h other =
+    let c = get_or s i 0 in
+    let above : ltb (digit_of c) 10 ≡ false = le-ltb (digit_of c) 10 (no_other_digit c (omega arith)) in
+    at_drop_more (rest_of n) s i 0 h ∙ rw above
+
+none_either_way : (b : Bool) → cond {A = Option ℕ} b None None ≡ None
+none_either_way true = refl
+none_either_way false = refl
+
+pub rest_of_large : (n : ℕ) (s : List ℕ) → 2 ^ 64 ≤ n → rest_of n s ≡ None
+rest_of_large n s h =
+    let above : ltb (value_from n s) (2 ^ 64) ≡ false = le-ltb (value_from n s) (2 ^ 64) (omega (arith, grows n s)) in
+    rw above (none_either_way (all_digits 10 s))
+
+pub digit_at : (base : ℕ) (s : List ℕ) (i : ℕ) → all_digits base s ≡ true → i < length s → digit_of (get_or s i 0) < base
+digit_at base s i p h = ltb-true _ _ (AllPass-from_list_all _ s p i 0 h)
+
+-- the pairs that the library takes a slice apart into
+chunk_at : (s : List ℕ) (k i : ℕ) → i < k → get_or (first_chunks 2 k s) i [] ≡ take 2 (drop (2 * i) s)
+chunk_at s zero i h = absurd (omega arith)
+chunk_at s (suc k) zero h = refl
+chunk_at s (suc k) (suc i) h =
+    let at : 2 * suc i ≡ 2 + 2 * i = omega arith in
+    chunk_at (drop 2 s) k i (omega arith) ∙ rw (drop-drop, at)
+
+-- what `digit` says of a byte of a pair
+pub digit_of_pair : (s : List ℕ) (cs : List (List ℕ)) (i j k : ℕ) (r : Option ℕ)
+    → cs ≡ first_chunks 2 (length s / 2) s → i < length s / 2 → j < 2 → k ≡ 2 * i + j → all_digits 16 s ≡ true
+    → r ≡ cond (ltb (digit_of (get_or (get_or cs i []) j 0)) 16) (Some (digit_of (get_or (get_or cs i []) j 0))) None
+    → r ≡ Some (digit_of (get_or s k 0))
+digit_of_pair s cs i j k r front h two at digits e =
+    let there : get_or (get_or cs i []) j 0 ≡ get_or s k 0 =
+    rw (front, chunk_at s (length s / 2) i h, get_or-take 2 (drop (2 * i) s) j 0 two, at) (get_or-drop (2 * i) s j 0) in
+    let below : ltb (digit_of (get_or s k 0)) 16 ≡ true = lt-ltb _ _ (digit_at 16 s k digits (omega arith)) in
+    e ∙ rw (there, below)
+
+-- one pair is stored
+pub pairs-turn : (l e s : List ℕ) (i : ℕ) → 2 * i + 1 < length s → sets l i (pairs (drop (2 * i) s)) ≡ e
+    → sets (set l i (digit_of (get_or s (2 * i) 0) * 16 + digit_of (get_or s (2 * i + 1) 0))) (i + 1) (pairs (drop (2 * (i + 1)) s)) ≡ e
+unfolding pairs
+pairs-turn l e s i h p =
+    let next : 2 * (i + 1) ≡ 2 * i + 1 + 1 = omega arith in
+    let two : drop (2 * i) s ≡ get_or s (2 * i) 0 ∷ get_or s (2 * i + 1) 0 ∷ drop (2 * i + 1 + 1) s =
+    drop_more s (2 * i) 0 (omega arith) ∙ ap (λ (t : List ℕ). get_or s (2 * i) 0 ∷ t) (drop_more s (2 * i + 1) 0 h) in
+    rw (next, add-one i) (rw two at p)
+
+-- `-` alone spells no bytes; the test is `==` of the library
+pub of_dash : (s dash out : List ℕ) (r : Bool) → r ≡ pointwise eqb s dash → dash ≡ 45 ∷ [] → r ≡ true → taken_of s out ≡ record { answer = Some 0; after = out }
 unfolding taken_of
-of-pairs s out one none even room =
-    simp (ne_eqb (length s) 1 one, not-empty s none, eq-eqb (length s % 2) 0 even, le-leb (length s / 2) (length out) room)
+of_dash s dash out r test is_dash holds =
+    let same : s ≡ 45 ∷ [] = (slice_eq-Decides Decides-eqb s dash r test).0 holds ∙ is_dash in
+    rw same
+
+only_dash : (s : List ℕ) → length s ≡ 1 → get_or s 0 0 ≡ 45 → s ≡ 45 ∷ []
+only_dash [] l g = absurd (omega arith)
+only_dash (x ∷ []) l g = rw g
+only_dash (x ∷ y ∷ s) l g = absurd (omega arith)
+
+-- of any other word it is tested whether it is one or more pairs of digits
+pub not_dash : (s dash out : List ℕ) (r : Bool) → r ≡ pointwise eqb s dash → dash ≡ 45 ∷ [] → r ≡ false
+    → taken_of s out ≡ unless (ltb 0 (length s)) out (unless (eqb (length s % 2) 0) out (unless (leb (length s / 2) (length out)) out
+    (unless (all_digits 16 s) out (record { answer = Some (length s / 2); after = sets out 0 (pairs s) }))))
+unfolding taken_of
+not_dash s dash out r test is_dash other =
+    let no_dash : get_or s 0 0 ≡ 45 → length s ≡ 1 → ⊥ = λ at one.
+    let yes : r ≡ true = (slice_eq-Decides Decides-eqb s dash r test).1 (only_dash s one at ∙ sym is_dash) in
+    cc in
+    elim (cases_eq (length s) 1) [
+      | inl one ↦ rw (one, ne_eqb (get_or s 0 0) 45 (λ at. no_dash at one))
+      | inr many ↦ rw (ne_eqb (length s) 1 many)
+    ]
 
 -- the bytes that a word gives lie in the buffer, by the tests of `taken_of`
 module _ (n : ℕ) (xs out : List ℕ) where
   taken : Bool → Bool → Bool → Bool → Bool → Bool → Took
   taken one dash some even room digits =
-      cond one (unless dash out (record { answer = Bytes 0; after = out }))
-      (unless some out (unless even out (unless room out (unless digits out (record { answer = Bytes n; after = sets out 0 xs })))))
+      cond one (unless dash out (record { answer = Some 0; after = out }))
+      (unless some out (unless even out (unless room out (unless digits out (record { answer = Some n; after = sets out 0 xs })))))
 
   within : (one dash some even room digits : Bool) (k : ℕ) → (room ≡ true → n ≤ length out)
-      → Bytes k ≡ (taken one dash some even room digits).answer → k ≤ length (taken one dash some even room digits).after
+      → Some k ≡ (taken one dash some even room digits).answer → k ≤ length (taken one dash some even room digits).after
   unfolding taken
   within true true some even room digits k h p = let z : k ≡ 0 = cc in omega arith
-  within true false some even room digits k h p = let z : ◌≡◌ {A = ℕ} 0 1 = cc in absurd (omega arith)
-  within false dash false even room digits k h p = let z : ◌≡◌ {A = ℕ} 0 1 = cc in absurd (omega arith)
-  within false dash true false room digits k h p = let z : ◌≡◌ {A = ℕ} 0 1 = cc in absurd (omega arith)
-  within false dash true true false digits k h p = let z : ◌≡◌ {A = ℕ} 0 1 = cc in absurd (omega arith)
-  within false dash true true true false k h p = let z : ◌≡◌ {A = ℕ} 0 1 = cc in absurd (omega arith)
+  within true false some even room digits k h p = absurd cc
+  within false dash false even room digits k h p = absurd cc
+  within false dash true false room digits k h p = absurd cc
+  within false dash true true false digits k h p = absurd cc
+  within false dash true true true false k h p = absurd cc
   within false dash true true true true k h p = let z : k ≡ n = cc in omega (arith, h refl, length-sets out 0 xs)
 
-pub taken-counts : (s out e : List ℕ) (k : ℕ) (r : Taken) → r ≡ (taken_of s out).answer → e ≡ (taken_of s out).after → r ≡ Bytes k → (k ≤ length e) × (k ≡ length (take k e))
+pub taken-counts : (s out e : List ℕ) (k : ℕ) (r : Option ℕ) → r ≡ (taken_of s out).answer → e ≡ (taken_of s out).after → r ≡ Some k
+    → (k ≤ length e) × (k ≡ length (take k e))
 unfolding taken_of taken
 taken-counts s out e k r p q g =
     let h : k ≤ length (taken_of s out).after =
@@ -129,16 +171,3 @@ taken-counts s out e k r p q g =
     (eqb (length s % 2) 0) (leb (length s / 2) (length out)) (all_digits 16 s) k (leb-true _ _) (sym g ∙ p) in
     let l : k ≤ length e = rw q h in
     (l, sym (length-take-le k e l))
-
--- a byte that is moved is still what it was, since only bytes before it were stored
-pub move-turn : (s s₀ e : List ℕ) (from count i : ℕ) → i < count → from + count ≤ length s₀
-    → drop i s ≡ drop i s₀ → sets s i (take (count - i) (drop (from + i) s₀)) ≡ e
-    → (drop (i + 1) (set s i (get_or s (from + i) 0)) ≡ drop (i + 1) s₀)
-    × (sets (set s i (get_or s (from + i) 0)) (i + 1) (take (count - (i + 1)) (drop (from + (i + 1)) s₀)) ≡ e)
-move-turn s s₀ e from count i h k p q =
-    let f : from + i ≡ i + from = omega arith in
-    let v : get_or s (from + i) 0 ≡ get_or s₀ (from + i) 0 = rw (f, ← get_or-drop i s from 0, ← get_or-drop i s₀ from 0, p) in
-    let r : drop (i + 1) s ≡ drop (i + 1) s₀ = rw (← drop-drop 1 i s, ← drop-drop 1 i s₀, p) in
-    let n : count - i ≡ suc (count - suc i) = omega arith in
-    let g : from + (i + 1) ≡ from + i + 1 = omega arith in
-    (drop-set-lt (i + 1) s i _ (omega arith) ∙ r, rw (v, g, add-one i) (rw (n, next s₀ (from + i) (omega arith)) at q))

@@ -20,7 +20,7 @@ use Rattle.meaning.specs.declared.Order.{Order}
 use Rattle.meaning.specs.declared.Fault.TheVariants.{BadOffset, InvalidBoolean}
 use Rattle.meaning.specs.declared.FixedValue.{FixedValue}
 use Rattle.meaning.specs.declared.FixedValue.TheVariants.{Byte, Boolean, Int16, Uint16, Int32, Uint32, Int64, Uint64, Double, Nan, UnixFd}
-use Rattle.meaning.specs.declared.FixedRead.TheVariants.{Read, Refused}
+use Rattle.std.specs.Prelude.{Ok, Err}
 use Rattle.meaning.proofs.Local.{Cmp, cmp, is_le, is_gt, bind_inv, ret_inv}
 use Rattle.meaning.proofs.NumberLaws.{Bytes, bytes_take, bytes_drop, load_lt}
 use Rattle.meaning.proofs.Meets.{here-bind, bytes-bind-inv, check-bind-inv, padding-sound, length-pad}
@@ -49,18 +49,18 @@ module _ (o : Order) (c : Fix) (b : List ℕ) (off : ℕ) (v : FixedValue) where
       let x : j.0 ≡ wire c b off = j.3 ∙ ap (λ (p : ℕ). take (size c) (drop p b)) m in
       record { is = z ∙ ap (fixed_value c) (sym w.0) ∙ ap (λ (l : List ℕ). fixed_value c (load o l)) x; full = ap length (sym x) ∙ j.2 }
 
-  from-inv : (q : Res ℕ) → base_r o (fix c) b off ≡ q → fixed_from c q ≡ Read v → Got o c b off v
+  from-inv : (q : Res ℕ) → base_r o (fix c) b off ≡ q → fixed_from c q ≡ Ok v → Got o c b off v
   from-inv (got n e) h z = base-is n e h (cc)
   from-inv (fault x) h z = absurd (let w : ◌≡◌ {A = ℕ} 0 1 = cc in omega arith)
 
-  pub read_is : read_fixed o (code_fix c ∷ []) b off ≡ Read v → Got o c b off v
+  pub read_is : read_fixed o (code_fix c ∷ []) b off ≡ Ok v → Got o c b off v
   read_is h = go (cmp off (length b))
     where
       go : Cmp off (length b) → Got o c b off v
       go (is_le t l) = from-inv (base_r o (fix c) b off) refl (sym (within o (code_fix c ∷ []) b off c (size c) (names (code_fix c ∷ []) c refl refl) refl l) ∙ h)
       go (is_gt t l) =
           let n = outside o (code_fix c ∷ []) b off c (size c) (names (code_fix c ∷ []) c refl refl) refl l (refusal BadOffset off) refl in
-          let z : Refused (refusal BadOffset off) ≡ Read v = n ∙ h in
+          let z : Err (refusal BadOffset off) ≡ Ok v = n ∙ h in
           absurd (let w : ◌≡◌ {A = ℕ} 0 1 = cc in omega arith)
 
 -- a double or a NaN that has these 64 bits
@@ -81,7 +81,7 @@ by : (n : ℕ) → n < 2 ^ 64 → (a : Bool) → nan_bits binary64 n ≡ a → H
 by n h true e = refl
 by n h false e = to_bits-of_bits binary64 n h (rw (← (nan_bits_is binary64 n), e) tt)
 
-pub exact : (o : Order) (b : List ℕ) → Bytes b → (off : ℕ) (v : FixedValue) → read_fixed o (code_fix dbl ∷ []) b off ≡ Read v → HasBits (load o (wire dbl b off)) v
+pub exact : (o : Order) (b : List ℕ) → Bytes b → (off : ℕ) (v : FixedValue) → read_fixed o (code_fix dbl ∷ []) b off ≡ Ok v → HasBits (load o (wire dbl b off)) v
 unfolding fixed_value
 exact o b y off v h =
     let g = read_is o dbl b off v h in

@@ -1,18 +1,17 @@
 -- Which signatures name a fixed type: those of one byte whose code has a fixed size in the table.
-use Prim.Native.Nat.{ℕ, ◌^◌, ◌<◌}
+use Prim.Native.Nat.{ℕ}
 use native.Mathlib.Omega.{arith}
-use mathlib.Core.Bool.{true}
 use mathlib.Core.List.{List, [], ◌∷◌}
-use mathlib.Core.Path.{◌≡◌, refl, ap, sym, subst, ◌∙◌}
+use mathlib.Core.Path.{◌≡◌, refl, ap, sym, ◌∙◌}
 use lib.ListN.{length, get_or}
 use Rattle.meaning.specs.Types.{Fix, byte, bool, i16, u16, i32, u32, i64, u64, dbl, fd, Base, fix, str, path, sig, Ty, base, arr, dict, struct, variant, size}
 use Rattle.meaning.specs.Signature.{code_fix, Tok, is_base, is_arr, is_var, is_open, is_close, is_curl, is_uncurl, is_bad, toks, find, put_base, put, step, run, Parsed, types, refused, parse, spell, spell_all, nest, all_nest}
-use Rattle.meaning.specs.ReadValue.{the, only_one, valid}
+use Rattle.meaning.specs.ReadValue.{the, only_one}
 use Rattle.meaning.specs.FixedValue.{OptFix, the_fix, not_fix, only_fix}
 use Rattle.meaning.proofs.SignatureLaws.{find-base, parse-sound}
 use Rattle.types.specs.Codes.{on_base, size_code, size_tok}
 use Rattle.types.proofs.CodeLaws.{size-fix, size-is-alignment}
-use Rattle.read.specs.Coded.{Coded, Holds}
+use Rattle.read.specs.Coded.{Coded}
 
 -- no two types have one code
 pub same_code : (x : ℕ) (c d : Fix) → x ≡ code_fix c → x ≡ code_fix d → c ≡ d
@@ -125,9 +124,6 @@ names s c h e = ap named (single s h) ∙ one_byte (get_or s 0 0) ∙ ap (λ (x 
 pub told : {A : Type 0} (f : Fix → A) (x : ℕ) (c : Fix) (v : A) → x ≡ code_fix c → v ≡ f c → (d : Fix) → x ≡ code_fix d → v ≡ f d
 told f x c v p e d q = e ∙ ap f (same_code x c d p q)
 
-pub small : (x n : ℕ) (c : Fix) → x ≡ code_fix c → Holds x n → n < 256 ^ size c
-small x n c p h = subst (λ (d : Fix). n < 256 ^ size d) (same_code x h.type c h.coded p) h.small
-
 -- the type that a code and its fixed size in the table tell
 pub record Chosen (x w : ℕ) : Type 0 where
   pub type : Fix
@@ -138,19 +134,6 @@ pub chosen : (x w : ℕ) → w ≡ size_code x → (w ≡ 0 → ⊥) → Chosen 
 chosen x w e h =
     let k : Coded x = is-fixed x (λ z. h (e ∙ z)) in
     record { type = k.type; coded = k.coded; wide = e ∙ size_of x k.type k.coded }
-
--- every value of a type that is no Boolean is valid
-pub not_bool : (x n : ℕ) (c : Fix) → (x ≡ code_fix bool → ⊥) → x ≡ code_fix c → true ≡ valid c n
-not_bool x n byte h e = refl
-not_bool x n bool h e = absurd (h e)
-not_bool x n i16 h e = refl
-not_bool x n u16 h e = refl
-not_bool x n i32 h e = refl
-not_bool x n u32 h e = refl
-not_bool x n i64 h e = refl
-not_bool x n u64 h e = refl
-not_bool x n dbl h e = refl
-not_bool x n fd h e = refl
 
 -- none of these numbers
 abbrev pub NoneOf : ℕ → List ℕ → Type 0

@@ -21,7 +21,7 @@ use Rattle.meaning.specs.declared.Order.{Order}
 use Rattle.meaning.specs.declared.Fault.TheVariants.{BadOffset, BadArgument}
 use Rattle.meaning.specs.declared.FixedValue.{FixedValue}
 use Rattle.meaning.specs.declared.FixedValue.TheVariants.{Double, Nan}
-use Rattle.meaning.specs.declared.FixedRead.TheVariants.{Read, Refused}
+use Rattle.std.specs.Prelude.{Ok, Err}
 use Rattle.read.specs.Bits.{extended, double_bits, bits_of}
 
 -- a signed number of k bits, carried on to 64: its last k bits are the wire's
@@ -62,17 +62,17 @@ wire-bits dbl n h t = ap (λ (m : ℕ). m % 256 ^ 8) (doubled n h (nan_bits bina
 wire-bits fd n h t = mod-eq_of_lt h
 
 -- a value that is read is one that the check accepts, with some length
-pub read-accepted : (o : Order) (s b : List ℕ) (off : ℕ) (v : FixedValue) → read_fixed o s b off ≡ Read v → (n : ℕ) × (check_value o s b off ≡ taken n)
+pub read-accepted : (o : Order) (s b : List ℕ) (off : ℕ) (v : FixedValue) → read_fixed o s b off ≡ Ok v → (n : ℕ) × (check_value o s b off ≡ taken n)
 unfolding read_fixed check_value check_at read_top read
 read-accepted o s b off v h = go (only_one (parse s)) refl
   where
-    none : {A : Type 0} → Refused (refusal BadArgument 0) ≡ Read v → A
+    none : {A : Type 0} → Err (refusal BadArgument 0) ≡ Ok v → A
     none z = absurd (let w : ◌≡◌ {A = ℕ} 0 1 = cc in omega arith)
 
     inner : (c : Fix) → only_one (parse s) ≡ the (base (fix c)) → (a : Bool) → leb off (length b) ≡ a → (q : Res ℕ) → base_r o (fix c) b off ≡ q → (n : ℕ) × (check_value o s b off ≡ taken n)
     inner c e true l (got n p) z = (p - off, rw (check_value, e, check_at, l, read_top, read, z))
-    inner c e true l (fault x) z = absurd (let y : Refused x ≡ Read v = sym (rw (read_fixed, e, l, z)) ∙ h in let w : ◌≡◌ {A = ℕ} 0 1 = cc in omega arith)
-    inner c e false l q z = absurd (let y : Refused (refusal BadOffset off) ≡ Read v = sym (rw (read_fixed, e, l)) ∙ h in let w : ◌≡◌ {A = ℕ} 0 1 = cc in omega arith)
+    inner c e true l (fault x) z = absurd (let y : Err x ≡ Ok v = sym (rw (read_fixed, e, l, z)) ∙ h in let w : ◌≡◌ {A = ℕ} 0 1 = cc in omega arith)
+    inner c e false l q z = absurd (let y : Err (refusal BadOffset off) ≡ Ok v = sym (rw (read_fixed, e, l)) ∙ h in let w : ◌≡◌ {A = ℕ} 0 1 = cc in omega arith)
 
     go : (p : Opt) → only_one (parse s) ≡ p → (n : ℕ) × (check_value o s b off ≡ taken n)
     go (the (base (fix c))) e = inner c e (leb off (length b)) refl (base_r o (fix c) b off) refl

@@ -1,7 +1,6 @@
 pub mod Signs
 pub mod FixedTypes
 pub mod Ways
-pub mod Extends
 pub mod Handed
 pub mod Exact
 pub mod OneAnswer

@@ -1,17 +1,15 @@
--- Two's complement as the code computes it: one law for every width.
-use Prim.Native.Nat.{ℕ, zero, suc, ◌-◌, ◌^◌, ◌≤◌, ◌<◌}
-use native.Mathlib.Nat.{zero-add}
-use mathlib.Core.Path.{◌≡◌, refl, sym, ◌∙◌, ap}
-use lib.IntN.{ℤ, pos, negsuc, ◌-ℤ◌}
-use borrow.Author.Tests.{lt-ltb, le-ltb}
+-- Two's complement: the library's casts give what the meaning says of it, at every width.
+use Prim.Native.Nat.{ℕ, suc, ◌-◌, ◌^◌}
+use native.Mathlib.Omega.{arith}
+use mathlib.Core.Bool.{Bool, true, false}
+use mathlib.Core.Path.{◌≡◌, refl, ap}
+use lib.IntN.{ℤ, pos, negsuc}
+use lib.Dec.{ltb}
 use mir.Syntax.{Width, w8, w16, w32, w64, w128}
-use mir.Val.{SFits, to_z, of_z, hbits, bits}
-use mir.Facts.{to_z_pos, to_z-of_z}
+use mir.Val.{to_z, of_z, sel, hbits, bits}
+use Rattle.meaning.specs.Text.{pick}
 use Rattle.meaning.specs.FixedValue.{signed}
-
-minus : (m : ℕ) → negsuc 0 -ℤ pos m ≡ negsuc m
-minus zero = refl
-minus (suc m) = ap (λ (k : ℕ). negsuc (suc k)) (zero-add m)
+use Rattle.read.specs.Bits.{extended}
 
 half : (w : Width) → bits w - 1 ≡ hbits w
 half w8 = refl
@@ -20,15 +18,16 @@ half w32 = refl
 half w64 = refl
 half w128 = refl
 
-pub low : (w : Width) (x : ℕ) → x < 2 ^ hbits w → to_z w x ≡ signed (bits w) x
-low w x h = to_z_pos w h ∙ sym (rw (half w, lt-ltb x (2 ^ hbits w) h))
+chosen : (b : Bool) (x y z : ℤ) → y ≡ z → sel b x y ≡ pick b x z
+chosen true x y z e = refl
+chosen false x y z e = e
 
-pub fits : (w : Width) (m : ℕ) → m < 2 ^ hbits w → SFits w (negsuc 0 -ℤ to_z w m)
-fits w m h = rw (to_z_pos w h, minus m) (record { sfits = h })
+pub read_signed : (w : Width) (n : ℕ) → to_z w n ≡ signed (bits w) n
+read_signed w n =
+    let e : 2 ^ bits w - suc n ≡ 2 ^ bits w - 1 - n = omega arith in
+    rw (half w) (chosen (ltb n (2 ^ hbits w)) (pos n) (negsuc (2 ^ bits w - suc n)) (negsuc (2 ^ bits w - 1 - n)) (ap negsuc e))
 
-pub high : (w : Width) (x : ℕ) → 2 ^ hbits w ≤ x → 2 ^ bits w - 1 - x < 2 ^ hbits w → to_z w (of_z w (negsuc 0 -ℤ to_z w (2 ^ bits w - 1 - x))) ≡ signed (bits w) x
-high w x h m =
-    to_z-of_z (fits w (2 ^ bits w - 1 - x) m)
-    ∙ ap (λ (z : ℤ). negsuc 0 -ℤ z) (to_z_pos w m)
-    ∙ minus (2 ^ bits w - 1 - x)
-    ∙ sym (rw (half w, le-ltb x (2 ^ hbits w) h))
+pub carried_on : (z : ℤ) → of_z w64 z ≡ extended z
+unfolding extended
+carried_on (pos n) = refl
+carried_on (negsuc m) = omega arith

@@ -5,209 +5,110 @@
 // exactly where rows of docs/DIFFERENCES.md stand behind a question, and `same` where there is `-`.
 #![tactic(auto)]
 
-ghost use Rattle.std.specs.Prelude.{◌≤◌, length};
-
-use meaning::{Checked, Counted, Order, Place, Refusal};
-use question_lines::{Number, Taken};
+use meaning::{Length, Order, Place, Refusal};
+use std::alloc::{AllocError, Global};
 use std::io;
 use std::io::Read;
 use unmarshal::check_message;
 
-const INPUT: usize = 393216;
+// How much of the input is read.
+const INPUT: u64 = 393216;
 
+// How many bytes a word spells at most.
 const BYTES: usize = 1024;
 
-// What the library answers: a length or a number of types; or a refusal's position and number.
-#[derive(Clone, Copy)]
-enum Said {
-    Accepted(u64),
-    Refused(u64, u64),
-    NoQuestion,
-}
+// What the library answers: a length or a number of types; or a refusal.
+type Said = Result<u64, Refusal>;
 
-fn refused(r: Refusal) -> Said {
-    let place = r.place;
-    let fault = r.fault;
-    Said::Refused(place.0 as u64, meaning::number(fault) as u64)
-}
-
-fn checked(c: Checked) -> Said {
+fn checked(c: Result<Length, Refusal>) -> Said {
     match c {
-        Checked::Accepted(length) => Said::Accepted(length.0 as u64),
-        Checked::Refused(r) => refused(r),
+        Ok(length) => Ok(length.0 as u64),
+        Err(r) => Err(r),
     }
 }
 
-fn counted(c: Counted) -> Said {
+fn counted(c: Result<usize, Refusal>) -> Said {
     match c {
-        Counted::Types(n) => Said::Accepted(n as u64),
-        Counted::Refused(r) => refused(r),
+        Ok(n) => Ok(n as u64),
+        Err(r) => Err(r),
     }
 }
 
-// The letter that a word begins with.
-fn letter(word: &[u8]) -> u8 {
-    if word.len() == 0 { 0 } else { word[0] }
+// The bytes that a word spells.
+fn spelled<'a>(word: &[u8], buf: &'a mut [u8; BYTES]) -> Option<&'a [u8]> {
+    let n = question_lines::bytes_of(word, buf)?;
+    Some(question_lines::first(buf, n))
 }
 
-fn order_of(word: &[u8]) -> Order {
-    if letter(word) == b'B' {
-        Order::Big
-    } else {
-        Order::Little
-    }
+fn of_signature(word: &[u8]) -> Option<Said> {
+    let mut sig = [0u8; BYTES];
+    Some(counted(signature::validate_signature(spelled(word, &mut sig)?)))
 }
 
-fn of_signature(words: &[u8], buf: &mut [u8]) -> Said {
-    let Taken::Bytes(n) = question_lines::bytes_of(question_lines::head(words), buf) else {
-        return Said::NoQuestion;
-    };
-    counted(signature::validate_signature(question_lines::first(buf, n)))
-}
-
-fn of_message(words: &[u8], buf: &mut [u8]) -> Said {
-    let Taken::Bytes(n) = question_lines::bytes_of(question_lines::head(words), buf) else {
-        return Said::NoQuestion;
-    };
-    checked(check_message::check_message(question_lines::first(buf, n)))
+fn of_message(word: &[u8]) -> Option<Said> {
+    let mut buf = [0u8; BYTES];
+    Some(checked(check_message::check_message(spelled(word, &mut buf)?)))
 }
 
 // An offset, a signature and bytes.
-fn of_value(order: Order, words: &[u8], sig: &mut [u8], buf: &mut [u8]) -> Said {
-    let Number::Is(offset) = question_lines::number_of(question_lines::head(words)) else {
-        return Said::NoQuestion;
-    };
-    let rest = question_lines::tail(words);
-    let Taken::Bytes(n) = question_lines::bytes_of(question_lines::head(rest), sig) else {
-        return Said::NoQuestion;
-    };
-    let Taken::Bytes(k) = question_lines::bytes_of(
-        question_lines::head(question_lines::tail(rest)),
-        buf,
-    ) else {
-        return Said::NoQuestion;
-    };
-    checked(validate_raw::validate_marshalled(
-        order,
-        Place(offset as usize),
-        question_lines::first(buf, k),
-        question_lines::first(sig, n),
-    ))
+fn of_value(order: Order, offset: &[u8], sig: &[u8], value: &[u8]) -> Option<Said> {
+    let offset = question_lines::number_of(offset)?;
+    let mut bytes = [0u8; BYTES];
+    let sig = spelled(sig, &mut bytes)?;
+    let mut buf = [0u8; BYTES];
+    let value = spelled(value, &mut buf)?;
+    Some(checked(validate_raw::validate_marshalled(order, Place(offset as usize), value, sig)))
 }
 
 fn is_number(word: &[u8], n: u64) -> bool {
-    match question_lines::number_of(word) {
-        Number::Is(m) => m == n,
-        Number::Bad => false,
+    question_lines::number_of(word) == Some(n)
+}
+
+// Whether the crate's words say the same; a position that it does not give is `-`.
+fn agrees(said: Said, words: &[&[u8]]) -> bool {
+    match (said, words) {
+        (Ok(n), [[b'o', ..], m, ..]) => is_number(m, n),
+        (Err(r), [[b'n', ..], position, number, ..]) => {
+            let Refusal { fault, place } = r;
+            is_number(number, u64::from(meaning::number(fault)))
+                && (position.first() == Some(&b'-') || is_number(position, place.0 as u64))
+        }
+        _ => false,
     }
 }
 
-// Whether the crate's words say the same.
-fn agrees(said: Said, words: &[u8]) -> bool {
-    let word = letter(question_lines::head(words));
-    let rest = question_lines::tail(words);
+// Whether the words of a line are a question, and behind it and an arrow the crate's words that say what the library says.
+fn is_same(words: &[&[u8]]) -> bool {
+    let (said, answer) = match words {
+        [[b's', ..], sig, _, answer @ ..] => (of_signature(sig), answer),
+        [[b'm', ..], message, _, answer @ ..] => (of_message(message), answer),
+        [_, [b'B', ..], offset, sig, value, _, answer @ ..] => {
+            (of_value(Order::Big, offset, sig, value), answer)
+        }
+        [_, _, offset, sig, value, _, answer @ ..] => {
+            (of_value(Order::Little, offset, sig, value), answer)
+        }
+        _ => return false,
+    };
     match said {
-        Said::Accepted(n) => {
-            if word == b'o' {
-                is_number(question_lines::head(rest), n)
-            } else {
-                false
-            }
-        }
-        Said::Refused(position, n) => {
-            if word == b'n' {
-                refuses(position, n, rest)
-            } else {
-                false
-            }
-        }
-        Said::NoQuestion => false,
+        Some(said) => agrees(said, answer),
+        None => false,
     }
 }
 
-// The words are a position and a number.
-fn refuses(position: u64, n: u64, words: &[u8]) -> bool {
-    if is_number(question_lines::head(question_lines::tail(words)), n) {
-        if letter(question_lines::head(words)) == b'-' {
-            true
-        } else {
-            is_number(question_lines::head(words), position)
-        }
-    } else {
-        false
-    }
-}
-
-// What stands behind a number of words and the arrow after them.
-fn behind(words: &[u8], n: usize) -> &[u8] {
-    if n == 1 {
-        question_lines::tail(question_lines::tail(words))
-    } else {
-        question_lines::tail(question_lines::tail(question_lines::tail(question_lines::tail(
-            question_lines::tail(words),
-        ))))
-    }
-}
-
-fn is_same(line: &[u8], sig: &mut [u8], buf: &mut [u8]) -> bool {
-    let kind = letter(question_lines::head(line));
-    let words = question_lines::tail(line);
-    if kind == b's' {
-        agrees(of_signature(words, buf), behind(words, 1))
-    } else if kind == b'm' {
-        agrees(of_message(words, buf), behind(words, 1))
-    } else {
-        let order = order_of(question_lines::head(words));
-        agrees(
-            of_value(order, question_lines::tail(words), sig, buf),
-            behind(words, 4),
-        )
-    }
-}
-
-fn replay_line(rt: &impl Print, line: &[u8], sig: &mut [u8], buf: &mut [u8]) -> io::Result<()> {
-    if is_same(line, sig, buf) {
-        rt.write_all(b"same\n")
-    } else {
-        rt.write_all(b"differs\n")
-    }
-}
-
-// Each line that ends among the first `n` bytes.
-fn replay_lines(
-    rt: &impl Print,
-    n: usize,
-    input: &[u8],
-    sig: &mut [u8],
-    buf: &mut [u8],
-) -> io::Result<()>
-    requires { n ≤ length input.now }
-{
-    let mut start = 0;
-    let mut end = question_lines::find(input, 0, n, b'\n');
-    while end < n {
-        replay_line(rt, &input[start..end], sig, buf)?;
-        start = end + 1;
-        end = question_lines::find(input, start, n, b'\n');
-    }
-    Ok(())
-}
-
-// Arrays whose lengths are in their types, so that nothing has to count their elements.
-fn replay(
-    rt: &impl Print,
-    reader: &mut impl Read,
-    input: &mut [u8; INPUT],
-    sig: &mut [u8; BYTES],
-    buf: &mut [u8; BYTES],
-) -> io::Result<()> {
-    let n = question_lines::read_full(reader, input)?;
-    replay_lines(rt, n, input, sig, buf)
+fn replay_line(alloc: Global, line: &[u8]) -> Result<&'static str, AllocError> {
+    let words: Vec<&[u8]> = line.split(|b| *b == b' ').collect(alloc)?;
+    Ok(if is_same(&words) { "same" } else { "differs" })
 }
 
 fn main(rt: HostRuntime) -> io::Result<()> {
-    let mut input = [0u8; INPUT];
-    let mut sig = [0u8; BYTES];
-    let mut buf = [0u8; BYTES];
-    replay(&rt, &mut rt.stdin(), &mut input, &mut sig, &mut buf)
+    let mut input = Vec::new(rt.alloc());
+    rt.stdin().take(INPUT).read_to_end(&mut input)?;
+    // a line that does not end is none
+    for line in input.split_inclusive(|b| *b == b'\n') {
+        if let Some(line) = line.strip_suffix(b"\n") {
+            println!(rt; "{}", replay_line(rt.alloc(), line)?)?;
+        }
+    }
+    Ok(())
 }

@@ -170,14 +170,6 @@ bracket-one c d = go (eqb c 40 || eqb c 123) (eqb c 41 || eqb c 125) d
     go false true (suc d) = omega arith
     go false false d = omega arith
 
-pub bracket-none : (c : ℕ) → (c ≡ 40 → ⊥) → (c ≡ 123 → ⊥) → bracketed c 0 ≡ 0
-unfolding bracketed
-bracket-none c a b = simp (ne_eqb c 40 a, ne_eqb c 123 b) (go (eqb c 41 || eqb c 125))
-  where
-    go : (x : Bool) → ◌≡◌ {A = ℕ} (cond x 0 0) 0
-    go true = refl
-    go false = refl
-
 pub less-sub : (d : ℕ) → d - 1 ≡ less d
 less-sub zero = refl
 less-sub (suc d) = omega arith

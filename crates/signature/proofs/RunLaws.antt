@@ -3,7 +3,7 @@ use Prim.Native.Nat.{ℕ, suc, ◌+◌, ◌<◌, ◌≤◌}
 use native.Mathlib.Numerals.{add-one}
 use native.Mathlib.Omega.{arith}
 use mathlib.Core.Path.{◌≡◌, refl, ap, sym, subst, ◌∙◌}
-use mathlib.Core.Bool.{Bool, true, false, ◌&&◌, ◌||◌, not}
+use mathlib.Core.Bool.{Bool, true, false, ◌||◌, or-true}
 use mathlib.Core.List.{List, [], ◌∷◌}
 use lib.Dec.{eqb}
 use lib.ListN.{length, drop, get_or, drop_of_length-le}
@@ -15,27 +15,26 @@ use Rattle.meaning.specs.ReadValue.{counted_of, check_signature}
 use Rattle.meaning.specs.Faults.{refusal}
 use Rattle.meaning.specs.declared.Fault.{Fault}
 use Rattle.meaning.specs.declared.Fault.TheVariants.{InvalidSignature, EmptySignature, SignatureTooLong, NestingTooDeep}
-use Rattle.meaning.specs.declared.Counted.{Counted}
-use Rattle.meaning.specs.declared.Counted.TheVariants.{Types, Refused}
-use Rattle.types.specs.Codes.{align_code}
+use Rattle.std.specs.Prelude.{Result, Ok, Err}
+use Rattle.meaning.specs.declared.Refusal.{Refusal}
 use Rattle.types.proofs.Rule.{passes, passed}
 use Rattle.signature.specs.declared.State.{State}
-use Rattle.signature.specs.declared.Moved.{Moved}
-use Rattle.signature.specs.declared.Moved.TheVariants.{To, Bad}
+use Rattle.signature.specs.declared.Mark.{Mark}
+use Rattle.signature.specs.declared.Mark.TheVariants.{Floor}
 use Rattle.signature.specs.Codes.{base_tok}
 use Rattle.signature.specs.Marks.{height, whole_in, fine_in, Held, structs_in, arrays_in, Follows, After}
 use Rattle.signature.proofs.MarkLaws.{Handler, by-mark, at-floor}
 use Rattle.signature.proofs.CodeLaws.{same, same-is}
 
 -- what holds where i bytes of s are read: the rest of the run is the whole run
-pub record Going (s m : List ℕ) (o : State) (i : ℕ) : Type 0 where
+pub record Going (s : List ℕ) (m : List Mark) (o : State) (i : ℕ) : Type 0 where
   pub stack : Stack
   pub follows : Follows stack m o
   pub left : run (drop i s) stack ≡ run s (floor [])
   pub small : o.top + o.types ≤ i
   pub within : i ≤ length s
 
-pub starts : (s m : List ℕ) → length m ≡ 256 → get_or m 0 0 ≡ 0 → Going s m (record { top = 0; structs = 0; arrays = 0; types = 0; fine = true }) 0
+pub starts : (s : List ℕ) (m : List Mark) → length m ≡ 256 → get_or m 0 Floor ≡ Floor → Going s m (record { top = 0; structs = 0; arrays = 0; types = 0; fine = true }) 0
 unfolding Held height structs_in arrays_in whole_in fine_in all_nest
 starts s m l h =
     record {
@@ -54,10 +53,10 @@ run-off : (c : ℕ) (cs : List ℕ) (k : Stack) {f : Fault} → step (find toks 
 unfolding run
 run-off c cs k e = rw (e, run)
 
-module _ {s m : List ℕ} {o : State} {i : ℕ} (n : List ℕ) (r : Moved) (g : Going s m o i) (h : i < length s)
+module _ {s : List ℕ} {m : List Mark} {o : State} {i : ℕ} (n : List Mark) (r : Result State Fault) (g : Going s m o i) (h : i < length s)
     (a : (k : Stack) → Follows k m o → After (step (find toks (get_or s i 0)) k) n (o.top + o.types + 1) r) where
   -- a byte that goes on
-  pub goes_on : (q : State) → r ≡ To q → Going s n q (i + 1)
+  pub goes_on : (q : State) → r ≡ Ok q → Going s n q (i + 1)
   goes_on q z = go (step (find toks (get_or s i 0)) g.stack) refl (a g.stack g.follows)
     where
       go : (x : Step) → step (find toks (get_or s i 0)) g.stack ≡ x → After x n (o.top + o.types + 1) r → Going s n q (i + 1)
@@ -73,7 +72,7 @@ module _ {s m : List ℕ} {o : State} {i : ℕ} (n : List ℕ) (r : Moved) (g : 
       go (bad f) e w = absurd (let y : ◌≡◌ {A = ℕ} 0 1 = cc in omega arith)
 
   -- a byte that does not
-  pub goes-off : (f : Fault) → r ≡ Bad f → run s (floor []) ≡ bad f
+  pub goes-off : (f : Fault) → r ≡ Err f → run s (floor []) ≡ bad f
   goes-off f z = go (step (find toks (get_or s i 0)) g.stack) refl (a g.stack g.follows)
     where
       go : (x : Step) → step (find toks (get_or s i 0)) g.stack ≡ x → After x n (o.top + o.types + 1) r → run s (floor []) ≡ bad f
@@ -82,7 +81,7 @@ module _ {s m : List ℕ} {o : State} {i : ℕ} (n : List ℕ) (r : Moved) (g : 
           let p : bad d ≡ bad f = cc in
           sym g.left ∙ ap (λ (l : List ℕ). run l g.stack) (drop-cons s i 0 h) ∙ run-off (get_or s i 0) (drop (suc i) s) g.stack e ∙ p
 
-pub run_end : {s m : List ℕ} {o : State} {i : ℕ} (g : Going s m o i) → length s ≤ i → run s (floor []) ≡ to g.stack
+pub run_end : {s : List ℕ} {m : List Mark} {o : State} {i : ℕ} (g : Going s m o i) → length s ≤ i → run s (floor []) ≡ to g.stack
 unfolding run
 run_end {s} g h = sym g.left ∙ ap (λ (l : List ℕ). run l g.stack) (drop_of_length-le s h)
 
@@ -93,8 +92,8 @@ floor-deep : (ts : List Ty) → all_nest ts ≡ false → finish (to (floor ts))
 floor-deep ts e = rw (e, finish)
 
 -- what the stack at the end amounts to
-module _ {m : List ℕ} {o : State} where
-  pub end-open : (k : Stack) → Follows k m o → (o.top ≡ 0 → ⊥) → counted_of (finish (to k)) ≡ Refused (refusal InvalidSignature 0)
+module _ {m : List Mark} {o : State} where
+  pub end-open : (k : Stack) → Follows k m o → (o.top ≡ 0 → ⊥) → counted_of (finish (to k)) ≡ Err (refusal InvalidSignature 0)
   unfolding height
   end-open (floor ts) f e = absurd (e f.stands.top)
   end-open (open0 k) f e = refl
@@ -104,18 +103,18 @@ module _ {m : List ℕ} {o : State} where
   end-open (need_val g c k) f e = refl
   end-open (need_end g c d k) f e = refl
 
-  pub end-fine : (k : Stack) → Follows k m o → o.top ≡ 0 → o.fine ≡ true → counted_of (finish (to k)) ≡ Types o.types
+  pub end-fine : (k : Stack) → Follows k m o → o.top ≡ 0 → o.fine ≡ true → counted_of (finish (to k)) ≡ Ok o.types
   unfolding Handler whole_in fine_in
-  end-fine k f e b = by-mark (λ k. Follows k m o → counted_of (finish (to k)) ≡ Types o.types) k 0 (at-floor k (sym f.stands.top ∙ e))
-      (λ ts g. ap counted_of (floor-fine ts (sym g.fine ∙ b)) ∙ ap Types (sym g.stands.types)) f
+  end-fine k f e b = by-mark (λ k. Follows k m o → counted_of (finish (to k)) ≡ Ok o.types) k Floor (at-floor k (sym f.stands.top ∙ e))
+      (λ ts g. ap counted_of (floor-fine ts (sym g.fine ∙ b)) ∙ ap Ok (sym g.stands.types)) f
 
-  pub end-deep : (k : Stack) → Follows k m o → o.top ≡ 0 → o.fine ≡ false → counted_of (finish (to k)) ≡ Refused (refusal NestingTooDeep 0)
+  pub end-deep : (k : Stack) → Follows k m o → o.top ≡ 0 → o.fine ≡ false → counted_of (finish (to k)) ≡ Err (refusal NestingTooDeep 0)
   unfolding Handler fine_in
-  end-deep k f e b = by-mark (λ k. Follows k m o → counted_of (finish (to k)) ≡ Refused (refusal NestingTooDeep 0)) k 0 (at-floor k (sym f.stands.top ∙ e))
+  end-deep k f e b = by-mark (λ k. Follows k m o → counted_of (finish (to k)) ≡ Err (refusal NestingTooDeep 0)) k Floor (at-floor k (sym f.stands.top ∙ e))
       (λ ts g. ap counted_of (floor-deep ts (sym g.fine ∙ b))) f
 
 -- the length is looked at first
-pub too_long : (s : List ℕ) → 255 < length s → counted_of (parse s) ≡ Refused (refusal SignatureTooLong 0)
+pub too_long : (s : List ℕ) → 255 < length s → counted_of (parse s) ≡ Err (refusal SignatureTooLong 0)
 unfolding parse
 too_long s h = ap counted_of (let p : parse s ≡ refused SignatureTooLong = rw (lt-leb (length s) 255 h, parse) in p)
 
@@ -127,9 +126,9 @@ not-long s h = rw (le-leb (length s) 255 h, parse)
 abbrev whole : Tok → Bool
 whole q = base_tok q || eqb (code_tok q) 118
 
-abbrev alone : Bool → Counted
-alone true = Types 1
-alone false = Refused (refusal InvalidSignature 0)
+abbrev alone : Bool → Result ℕ Refusal
+alone true = Ok 1
+alone false = Err (refusal InvalidSignature 0)
 
 one_on : (x : ℕ) (j : Stack) → step (find toks x) (floor []) ≡ to j → counted_of (parse (x ∷ [])) ≡ counted_of (finish (to j))
 unfolding run
@@ -156,32 +155,29 @@ one-is : (x : ℕ) (b : Bool) → whole (find toks x) ≡ b → counted_of (pars
 one-is x b e = one_byte x ∙ ap alone e
 
 tells : ℕ → Bool
-tells x = same (not (eqb x 97) && (not (eqb x 40) && not (eqb (align_code x) 0))) (whole (find toks x))
+tells x = same (eqb x 118 || base_tok (find toks x)) (whole (find toks x))
 
--- the table tells whether the byte is a type by itself
-told : (x : ℕ) → x < 256 → whole (find toks x) ≡ (not (eqb x 97) && (not (eqb x 40) && not (eqb (align_code x) 0)))
-unfolding tells passes find align_code
+-- the basic types' codes and the variant's are types by themselves
+told : (x : ℕ) → x < 256 → whole (find toks x) ≡ (eqb x 118 || base_tok (find toks x))
+unfolding tells passes find
 told x h = same-is _ (whole (find toks x)) (passed tells 256 tt x h)
 
 module _ (x : ℕ) (h : x < 256) where
-  pub alone-array : x ≡ 97 → counted_of (parse (x ∷ [])) ≡ Refused (refusal InvalidSignature 0)
-  alone-array e = one-is x false (told x h ∙ simp (eq-eqb x 97 e))
+  pub alone-variant : x ≡ 118 → counted_of (parse (x ∷ [])) ≡ Ok 1
+  alone-variant e = one-is x true (told x h ∙ simp (eq-eqb x 118 e))
 
-  pub alone-struct : x ≡ 40 → counted_of (parse (x ∷ [])) ≡ Refused (refusal InvalidSignature 0)
-  alone-struct e = one-is x false (told x h ∙ simp (ne_eqb x 97 (λ q. omega arith), eq-eqb x 40 e))
+  pub alone-basic : base_tok (find toks x) ≡ true → counted_of (parse (x ∷ [])) ≡ Ok 1
+  alone-basic b = one-is x true (told x h ∙ simp (b, or-true))
 
-  pub alone-none : (x ≡ 97 → ⊥) → (x ≡ 40 → ⊥) → align_code x ≡ 0 → counted_of (parse (x ∷ [])) ≡ Refused (refusal InvalidSignature 0)
-  alone-none a b e = one-is x false (told x h ∙ simp (ne_eqb x 97 a, ne_eqb x 40 b, eq-eqb (align_code x) 0 e))
-
-  pub alone-type : (x ≡ 97 → ⊥) → (x ≡ 40 → ⊥) → (align_code x ≡ 0 → ⊥) → counted_of (parse (x ∷ [])) ≡ Types 1
-  alone-type a b e = one-is x true (told x h ∙ simp (ne_eqb x 97 a, ne_eqb x 40 b, ne_eqb (align_code x) 0 e))
+  pub alone-none : (x ≡ 118 → ⊥) → base_tok (find toks x) ≡ false → counted_of (parse (x ∷ [])) ≡ Err (refusal InvalidSignature 0)
+  alone-none v b = one-is x false (told x h ∙ simp (ne_eqb x 118 v, b))
 
 pub the-byte : (s : List ℕ) → length s ≡ 1 → s ≡ get_or s 0 0 ∷ []
 the-byte [] h = absurd (omega arith)
 the-byte (c ∷ []) h = refl
 the-byte (c ∷ d ∷ ds) h = absurd (omega arith)
 
-pub check-empty : (s : List ℕ) → length s ≡ 0 → check_signature s ≡ Refused (refusal EmptySignature 0)
+pub check-empty : (s : List ℕ) → length s ≡ 0 → check_signature s ≡ Err (refusal EmptySignature 0)
 unfolding check_signature
 check-empty [] h = refl
 check-empty (c ∷ cs) h = absurd (omega arith)

@@ -11,8 +11,7 @@ use borrow.Author.Tests.{lt-ltb, le-ltb}
 use Rattle.meaning.specs.declared.Order.{Order}
 use Rattle.meaning.specs.declared.Refusal.{Refusal}
 use Rattle.meaning.specs.declared.Header.{Header}
-use Rattle.meaning.specs.declared.HeaderRead.{HeaderRead}
-use Rattle.meaning.specs.declared.HeaderRead.TheVariants as header_read
+use Rattle.std.specs.Prelude.{Result, Ok, Err}
 use Rattle.meaning.specs.Number.{load, gap}
 use Rattle.meaning.specs.Message.{Message}
 use Rattle.meaning.specs.Reader.{Res, got, fault}
@@ -45,12 +44,12 @@ module _ (b : List ℕ) where
       let z : size_in (take 12 b) ≡ s = ap₂ (λ (x : Order) (y : List ℕ). load x y) m (seen b 12 4 4 (omega arith) (omega arith)) ∙ sym es in
       rw (le-ltb _ _ h, n, z, eg)
 
-  module _ (q : HeaderRead) (answers : q ≡ read_header b) where
-    pub is_whole : (h : Header) → q ≡ header_read.Read h → (Whole h ≡ next_of b) × (h.length.0 ≤ length b)
+  module _ (q : Result Header Refusal) (answers : q ≡ read_header b) where
+    pub is_whole : (h : Header) → q ≡ Ok h → (Whole h ≡ next_of b) × (h.length.0 ≤ length b)
     unfolding next_of read_header
-    is_whole h k = (sym (ap (λ (x : HeaderRead). next_from x (length b) (stated_size b)) (sym answers ∙ k)), go (read_message b 0) refl (sym answers ∙ k))
+    is_whole h k = (sym (ap (λ (x : Result Header Refusal). next_from x (length b) (stated_size b)) (sym answers ∙ k)), go (read_message b 0) refl (sym answers ∙ k))
       where
-        go : (x : Res Message) → read_message b 0 ≡ x → header_from x ≡ header_read.Read h → h.length.0 ≤ length b
+        go : (x : Res Message) → read_message b 0 ≡ x → header_from x ≡ Ok h → h.length.0 ≤ length b
         go (got m e) r w =
             let u : header_of m e ≡ h = cc in
             let v : h.length.0 ≡ e = sym (ap (λ (x : Header). x.length.0) u) in
@@ -58,11 +57,11 @@ module _ (b : List ℕ) where
             omega (arith, v, l)
         go (fault x) r w = absurd (let u : ◌≡◌ {A = ℕ} 0 1 = cc in omega arith)
 
-    module _ (x : Refusal) (k : q ≡ header_read.Refused x) (s : ℕ) (states : s ≡ stated_size b) where
+    module _ (x : Refusal) (k : q ≡ Err x) (s : ℕ) (states : s ≡ stated_size b) where
       to : (short fewer : Bool) → is_short x.fault ≡ short → ltb (length b) s ≡ fewer → refused_as short fewer s x ≡ next_of b
       unfolding next_of
       to short fewer h l =
-          sym (ap (λ (y : HeaderRead). next_from y (length b) (stated_size b)) (sym answers ∙ k) ∙ rw (← states, h, l))
+          sym (ap (λ (y : Result Header Refusal). next_from y (length b) (stated_size b)) (sym answers ∙ k) ∙ rw (← states, h, l))
 
       pub is_cut : is_short x.fault ≡ true → length b < s → Cut (record { 0 = s }) ≡ next_of b
       is_cut h l = to true true h (lt-ltb _ _ l)

@@ -12,8 +12,7 @@ use borrow.Author.Tests.{lt-ltb, le-ltb}
 use Rattle.meaning.specs.declared.Length.{Length}
 use Rattle.meaning.specs.declared.Refusal.{Refusal}
 use Rattle.meaning.specs.declared.Header.{Header}
-use Rattle.meaning.specs.declared.HeaderRead.{HeaderRead}
-use Rattle.meaning.specs.declared.HeaderRead.TheVariants as header_read
+use Rattle.std.specs.Prelude.{Result, Ok, Err}
 use Rattle.meaning.specs.Faults.{is_short}
 use Rattle.meaning.specs.Message.{Message}
 use Rattle.meaning.specs.Reader.{Res, got, fault}
@@ -42,30 +41,30 @@ is_whole (Whole h) = true
 is_whole (Cut s) = false
 is_whole (Refused x) = false
 
-refused-from : (q : HeaderRead) (n s : ℕ) (x : Refusal) → next_from q n s ≡ Refused x
-    → (q ≡ header_read.Refused x) × ((is_short x.fault ≡ false) ⊎ (ltb n s ≡ false))
-refused-from (header_read.Read h) n s x e = no_true (sym (ap is_refused e))
-refused-from (header_read.Refused y) n s x e = go (is_short y.fault) (ltb n s) refl refl
+refused-from : (q : Result Header Refusal) (n s : ℕ) (x : Refusal) → next_from q n s ≡ Refused x
+    → (q ≡ Err x) × ((is_short x.fault ≡ false) ⊎ (ltb n s ≡ false))
+refused-from (Ok h) n s x e = no_true (sym (ap is_refused e))
+refused-from (Err y) n s x e = go (is_short y.fault) (ltb n s) refl refl
   where
     same : (k f : Bool) → is_short y.fault ≡ k → ltb n s ≡ f → refused_as k f s y ≡ Refused x
     same k f i j = rw (← i, ← j) e
 
-    is : Refused y ≡ Refused x → header_read.Refused y ≡ header_read.Refused x
-    is h = let z : y ≡ x = cc in ap (λ (w : Refusal). header_read.Refused w) z
+    is : Refused y ≡ Refused x → ◌≡◌ {A = Result Header Refusal} (Err y) (Err x)
+    is h = let z : y ≡ x = cc in ap (λ (w : Refusal). Err w) z
 
     of : Refused y ≡ Refused x → y ≡ x
     of h = cc
 
-    go : (k f : Bool) → is_short y.fault ≡ k → ltb n s ≡ f → (header_read.Refused y ≡ header_read.Refused x) × ((is_short x.fault ≡ false) ⊎ (ltb n s ≡ false))
+    go : (k f : Bool) → is_short y.fault ≡ k → ltb n s ≡ f → (◌≡◌ {A = Result Header Refusal} (Err y) (Err x)) × ((is_short x.fault ≡ false) ⊎ (ltb n s ≡ false))
     go true true i j = no_true (sym (ap is_refused (same true true i j)))
     go true false i j = (is (same true false i j), inr j)
     go false f i j = (is (same false f i j), inl (ap (λ (w : Refusal). is_short w.fault) (sym (of (same false f i j))) ∙ i))
 
-whole_from : (q : HeaderRead) (n s : ℕ) (h : Header) → next_from q n s ≡ Whole h → q ≡ header_read.Read h
-whole_from (header_read.Read g) n s h e = let z : g ≡ h = cc in ap (λ (w : Header). header_read.Read w) z
-whole_from (header_read.Refused y) n s h e = go (is_short y.fault) (ltb n s) refl refl
+whole_from : (q : Result Header Refusal) (n s : ℕ) (h : Header) → next_from q n s ≡ Whole h → q ≡ Ok h
+whole_from (Ok g) n s h e = let z : g ≡ h = cc in ap (λ (w : Header). Ok w) z
+whole_from (Err y) n s h e = go (is_short y.fault) (ltb n s) refl refl
   where
-    go : (k f : Bool) → is_short y.fault ≡ k → ltb n s ≡ f → header_read.Refused y ≡ header_read.Read h
+    go : (k f : Bool) → is_short y.fault ≡ k → ltb n s ≡ f → ◌≡◌ {A = Result Header Refusal} (Err y) (Ok h)
     go true true i j = no_true (sym (ap is_whole (rw (i, j) at e)))
     go true false i j = no_true (sym (ap is_whole (rw (i, j) at e)))
     go false f i j = no_true (sym (ap is_whole (rw i at e)))
@@ -93,9 +92,9 @@ is_cut (Whole h) = false
 is_cut (Cut s) = true
 is_cut (Refused x) = false
 
-cut-from : (q : HeaderRead) (n s : ℕ) (l : Length) → next_from q n s ≡ Cut l → (l.0 ≡ s) × (n < s)
-cut-from (header_read.Read h) n s l e = no_true (sym (ap is_cut e))
-cut-from (header_read.Refused y) n s l e = go (is_short y.fault) (ltb n s) refl refl
+cut-from : (q : Result Header Refusal) (n s : ℕ) (l : Length) → next_from q n s ≡ Cut l → (l.0 ≡ s) × (n < s)
+cut-from (Ok h) n s l e = no_true (sym (ap is_cut e))
+cut-from (Err y) n s l e = go (is_short y.fault) (ltb n s) refl refl
   where
     go : (k f : Bool) → is_short y.fault ≡ k → ltb n s ≡ f → (l.0 ≡ s) × (n < s)
     go true true i j =
@@ -129,11 +128,11 @@ module _ (b c : List ℕ) where
       rw (le-ltb (length (b ++ c)) 16 l, size-stays b c h.head) (omega (arith, longer, h.all))
 
   -- a refusal that is not too short is that of the longer buffer, and so is any, once all stated bytes are there
-  final-header : (x : Refusal) → read_header b ≡ header_read.Refused x → is_short x.fault ≡ false → read_header (b ++ c) ≡ header_read.Refused x
+  final-header : (x : Refusal) → read_header b ≡ Err x → is_short x.fault ≡ false → read_header (b ++ c) ≡ Err x
   unfolding read_header
   final-header x q k = ap header_from (go (read_message b 0) refl q) ∙ q
     where
-      go : (r : Res Message) → read_message b 0 ≡ r → header_from r ≡ header_read.Refused x → read_message (b ++ c) 0 ≡ read_message b 0
+      go : (r : Res Message) → read_message b 0 ≡ r → header_from r ≡ Err x → read_message (b ++ c) 0 ≡ read_message b 0
       go (got m e) i j = absurd (let z : ◌≡◌ {A = ℕ} 0 1 = cc in omega arith)
       go (fault y) i j =
           let z : y ≡ x = cc in
@@ -143,11 +142,11 @@ module _ (b c : List ℕ) where
   unfolding read_header
   there-header h = ap header_from (read-settled b h c)
 
-  whole-header : (h : Header) → read_header b ≡ header_read.Read h → read_header (b ++ c) ≡ header_read.Read h
+  whole-header : (h : Header) → read_header b ≡ Ok h → read_header (b ++ c) ≡ Ok h
   unfolding read_header
   whole-header h q = ap header_from (go (read_message b 0) refl q) ∙ q
     where
-      go : (r : Res Message) → read_message b 0 ≡ r → header_from r ≡ header_read.Read h → read_message (b ++ c) 0 ≡ read_message b 0
+      go : (r : Res Message) → read_message b 0 ≡ r → header_from r ≡ Ok h → read_message (b ++ c) 0 ≡ read_message b 0
       go (got m e) i j = read_message-local.up b c 0 (omega arith) (ap short i)
       go (fault y) i j = absurd (let z : ◌≡◌ {A = ℕ} 0 1 = cc in omega arith)
 
@@ -155,7 +154,7 @@ module _ (b c : List ℕ) where
   unfolding next_of
   refused-next x q = let i = refused-from (read_header b) (length b) (stated_size b) x q in go i.0 i.1
     where
-      go : read_header b ≡ header_read.Refused x → ((is_short x.fault ≡ false) ⊎ (ltb (length b) (stated_size b) ≡ false)) → next_of (b ++ c) ≡ Refused x
+      go : read_header b ≡ Err x → ((is_short x.fault ≡ false) ⊎ (ltb (length b) (stated_size b) ≡ false)) → next_of (b ++ c) ≡ Refused x
       go i (inl k) = rw (final-header x i k, k)
       go i (inr f) =
           let h = stated-there (ltb-le (length b) (stated_size b) f) in

@@ -1,8 +1,7 @@
 -- What stands next in a stream, by the bytes of it that are there.
-use Rattle.std.specs.Prelude.{ℕ, ◌≤◌, Bool, true, false, cond, List, length, ltb}
+use Rattle.std.specs.Prelude.{ℕ, ◌≤◌, Bool, true, false, cond, List, length, ltb, Result, Ok, Err}
 use Rattle.meaning.specs.declared.Refusal.{Refusal}
-use Rattle.meaning.specs.declared.HeaderRead.{HeaderRead}
-use Rattle.meaning.specs.declared.HeaderRead.TheVariants as header_read
+use Rattle.meaning.specs.declared.Header.{Header}
 use Rattle.meaning.specs.Faults.{is_short}
 use Rattle.meaning.specs.Header.{read_header}
 use Rattle.meaning.specs.ReadMessage.{message_size}
@@ -19,9 +18,9 @@ refused_as true true s x = Cut (record { 0 = s })
 refused_as true false s x = Refused x
 refused_as false fewer s x = Refused x
 
-abbrev pub next_from : HeaderRead → ℕ → ℕ → Next
-next_from (header_read.Read h) n s = Whole h
-next_from (header_read.Refused x) n s = refused_as (is_short x.fault) (ltb n s) s x
+abbrev pub next_from : Result Header Refusal → ℕ → ℕ → Next
+next_from (Ok h) n s = Whole h
+next_from (Err x) n s = refused_as (is_short x.fault) (ltb n s) s x
 
 unfoldable pub next_of : List ℕ → Next
 next_of b = next_from (read_header b) (length b) (stated_size b)

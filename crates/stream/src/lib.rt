@@ -6,7 +6,7 @@ ghost use Rattle.meaning.specs.Faults.{is_short};
 ghost use Rattle.stream.specs.Next.{stated_size, next_of, Within};
 
 use header::fixed_header;
-use meaning::{Fault, Header, HeaderRead, Length, Refusal};
+use meaning::{Fault, Header, Length, Refusal};
 use util::integers;
 
 #[derive(Clone, Copy)]
@@ -19,12 +19,14 @@ pub enum Next {
     Refused(Refusal),
 }
 
-// "Too short means 2 and 3."
+// "Too short means 2 and 3", the numbers of these two.
 fn is_short(fault: Fault) -> bool
     ensures { result ≡ is_short fault }
 {
-    let number = meaning::number(fault);
-    if number == 2 { true } else { number == 3 }
+    matches!(
+        fault,
+        Fault::NotEnoughBytes | Fault::NotEnoughBytesForCollection
+    )
 }
 
 // How many bytes the message at the start of the buffer has by its first 16 bytes, and 16 where they are not all there.
@@ -45,16 +47,14 @@ pub fn next_message(buf: &[u8]) -> Next
     ensures within { Within (length buf.now) result }
 {
     match unmarshal::unmarshal_header(buf) {
-        HeaderRead::Read(header) => Next::Whole(header),
-        HeaderRead::Refused(refusal) => {
-            let fault = refusal.fault;
+        Ok(header) => Next::Whole(header),
+        Err(refusal) => {
             let size = stated_size(buf);
-            if is_short(fault) {
-                if buf.len() < size {
-                    return Next::Cut(Length(size));
-                }
+            if is_short(refusal.fault) && buf.len() < size {
+                Next::Cut(Length(size))
+            } else {
+                Next::Refused(refusal)
             }
-            Next::Refused(refusal)
         }
     }
 }

@@ -8,7 +8,9 @@ use lib.ListN.{length}
 use lib.Dec.{leb}
 use Rattle.meaning.specs.Writers.{Content, bytes, faulty, put_at, put_content, write_at}
 use Rattle.meaning.specs.declared.Order.{Order}
-use Rattle.meaning.specs.declared.Written.{Written}
+use Rattle.std.specs.Prelude.{Result}
+use Rattle.meaning.specs.declared.Place.{Place}
+use Rattle.meaning.specs.declared.Refusal.{Refusal}
 use Rattle.structs.specs.declared.MtAnswer.{MtAnswer}
 use Rattle.structs.specs.Answers.{Past, written_of}
 
@@ -34,7 +36,7 @@ module _ (b : List ℕ) (at : ℕ) where
       go false e = rw (write_at, e, Past) tt
 
 -- a write in an order that is named, handed out: what was made of it, and the buffer that it left
-module _ (make : Order → Content) (b : List ℕ) (at : ℕ) {o p : Order} (named : o ≡ p) {r : Written} {after : List ℕ}
+module _ (make : Order → Content) (b : List ℕ) (at : ℕ) {o p : Order} (named : o ≡ p) {r : Result Place Refusal} {after : List ℕ}
     (wrote : (r ≡ (write_at (make o) b at).answer) × (after ≡ (write_at (make o) b at).after)) where
   pub past : Past at r
   past = subst (Past at) (sym wrote.0) (write-past b at (make o))

@@ -1,19 +1,13 @@
 -- What an exported function hands out, from the answers of the proved crates.
-use Rattle.std.specs.Prelude.{ℕ, ◌-◌, ◌≤◌, Bool, true, false}
+use Rattle.std.specs.Prelude.{ℕ, ◌-◌, ◌≤◌, Bool, true, false, Result, Ok, Err}
 use Rattle.meaning.specs.declared.Order.{Order}
 use Rattle.meaning.specs.declared.Order.TheVariants.{Little, Big}
-use Rattle.meaning.specs.declared.Checked.{Checked}
-use Rattle.meaning.specs.declared.Checked.TheVariants.{Accepted, Refused}
-use Rattle.meaning.specs.declared.Counted.{Counted}
-use Rattle.meaning.specs.declared.Counted.TheVariants as counted
-use Rattle.meaning.specs.declared.Written.{Written}
-use Rattle.meaning.specs.declared.Written.TheVariants as written
+use Rattle.meaning.specs.declared.Length.{Length}
+use Rattle.meaning.specs.declared.Place.{Place}
 use Rattle.meaning.specs.declared.Entry.{Entry}
 use Rattle.meaning.specs.declared.Entry.TheVariants.{Absent, Number, Text}
 use Rattle.meaning.specs.declared.Fields.{Fields}
 use Rattle.meaning.specs.declared.Header.{Header}
-use Rattle.meaning.specs.declared.HeaderRead.{HeaderRead}
-use Rattle.meaning.specs.declared.HeaderRead.TheVariants as header_read
 use Rattle.meaning.specs.declared.Refusal.{Refusal}
 use Rattle.meaning.specs.Faults.{number_of}
 use Rattle.meaning.specs.Message.{kind_code}
@@ -40,24 +34,24 @@ accepted n = record { number = 0; position = 0; length = n }
 abbrev pub refused : Refusal → MtAnswer
 refused x = record { number = number_of x.fault; position = x.place.0; length = 0 }
 
-abbrev pub answer_of : Checked → MtAnswer
-answer_of (Accepted n) = accepted n.0
-answer_of (Refused x) = refused x
+abbrev pub answer_of : Result Length Refusal → MtAnswer
+answer_of (Ok n) = accepted n.0
+answer_of (Err x) = refused x
 
 -- "(length: number of types)"
-abbrev pub count_of : Counted → MtAnswer
-count_of (counted.Types n) = accepted n
-count_of (counted.Refused x) = refused x
+abbrev pub count_of : Result ℕ Refusal → MtAnswer
+count_of (Ok n) = accepted n
+count_of (Err x) = refused x
 
 -- "(length: bytes written)": from the place on where the write began
-abbrev pub written_of : ℕ → Written → MtAnswer
-written_of from (written.Done p) = accepted (p.0 - from)
-written_of from (written.Refused x) = refused x
+abbrev pub written_of : ℕ → Result Place Refusal → MtAnswer
+written_of from (Ok p) = accepted (p.0 - from)
+written_of from (Err x) = refused x
 
 -- a write ends at or behind the place where it began
-abbrev pub Past : ℕ → Written → Type 0
-Past from (written.Done p) = from ≤ p.0
-Past from (written.Refused x) = Unit {0}
+abbrev pub Past : ℕ → Result Place Refusal → Type 0
+Past from (Ok p) = from ≤ p.0
+Past from (Err x) = Unit {0}
 
 -- "entries of kind 0 absent / 1 number / 2 text, number or place, length"
 abbrev pub entry_of : Entry → MtEntry
@@ -105,9 +99,9 @@ header_of h = record {
 }
 
 -- a message that is refused has no header: all but the answer is 0
-abbrev pub read_of : HeaderRead → MtHeader
-read_of (header_read.Read h) = header_of h
-read_of (header_read.Refused x) = record {
+abbrev pub read_of : Result Header Refusal → MtHeader
+read_of (Ok h) = header_of h
+read_of (Err x) = record {
   answer = refused x;
   big = false;
   kind = 0;

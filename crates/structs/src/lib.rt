@@ -2,13 +2,13 @@
 #![tactic(auto)]
 
 ghost use Rattle.std.specs.Prelude.{◌≡◌};
-ghost use Rattle.structs.specs.Answers.{order_of, is_big, accepted as accepted_of, refused as refused_of, answer_of, count_of, Past, written_of, entry_of, fields_of, no_fields, header_of, read_of, part_of};
+ghost use Rattle.structs.specs.Answers.{order_of, accepted as accepted_of, refused as refused_of, answer_of, count_of, Past, written_of, entry_of, fields_of, header_of, read_of, part_of};
 
-use meaning::{Checked, Counted, Entry, Fields, Header, HeaderRead, Order, Refusal, Written};
+use meaning::{Entry, Fields, Header, Length, Order, Place, Refusal};
 
 // Number 0: accepted, and length counts. Any other: document 01's number of the refusal, and position counts.
 #[repr(C)]
-#[derive(Clone, Copy)]
+#[derive(Clone, Copy, Default)]
 pub struct MtAnswer {
     pub number: u64,
     pub position: u64,
@@ -17,7 +17,7 @@ pub struct MtAnswer {
 
 // Kind 0: absent. 1: a number, in value. 2: a text, its place in value.
 #[repr(C)]
-#[derive(Clone, Copy)]
+#[derive(Clone, Copy, Default)]
 pub struct MtEntry {
     pub kind: u64,
     pub value: u64,
@@ -26,7 +26,7 @@ pub struct MtEntry {
 
 // In the order of the fields' codes, as nine entries in a row.
 #[repr(C)]
-#[derive(Clone, Copy)]
+#[derive(Clone, Copy, Default)]
 pub struct MtFields {
     pub object: MtEntry,
     pub interface: MtEntry,
@@ -40,7 +40,7 @@ pub struct MtFields {
 }
 
 #[repr(C)]
-#[derive(Clone, Copy)]
+#[derive(Clone, Copy, Default)]
 pub struct MtHeader {
     pub answer: MtAnswer,
     pub big: bool,
@@ -61,19 +61,11 @@ pub struct MtPart {
     pub length: u64,
 }
 
+// What C passes and gets goes through functions by these names: OneAnswer and the must-fail edits speak of each. What they are made of is `From`.
 pub fn order(big: bool) -> Order
     ensures { result ≡ order_of big }
 {
     if big { Order::Big } else { Order::Little }
-}
-
-fn is_big(order: Order) -> bool
-    ensures { result ≡ is_big order }
-{
-    match order {
-        Order::Little => false,
-        Order::Big => true,
-    }
 }
 
 fn accepted(length: usize) -> MtAnswer
@@ -89,152 +81,106 @@ fn accepted(length: usize) -> MtAnswer
 pub fn refused(refusal: Refusal) -> MtAnswer
     ensures { result ≡ refused_of refusal }
 {
-    let fault = refusal.fault;
-    let place = refusal.place;
     MtAnswer {
-        number: meaning::number(fault) as u64,
-        position: place.0 as u64,
+        number: u64::from(meaning::number(refusal.fault)),
+        position: refusal.place.0 as u64,
         length: 0,
     }
 }
 
-pub fn of_checked(checked: Checked) -> MtAnswer
-    ensures { result ≡ answer_of checked }
-{
-    match checked {
-        Checked::Accepted(length) => accepted(length.0),
-        Checked::Refused(refusal) => refused(refusal),
-    }
-}
-
-pub fn of_counted(counted: Counted) -> MtAnswer
+pub fn of_counted(counted: Result<usize, Refusal>) -> MtAnswer
     ensures { result ≡ count_of counted }
 {
     match counted {
-        Counted::Types(count) => accepted(count),
-        Counted::Refused(refusal) => refused(refusal),
+        Ok(count) => accepted(count),
+        Err(refusal) => refused(refusal),
     }
+}
+
+pub fn of_checked(checked: Result<Length, Refusal>) -> MtAnswer
+    ensures { result ≡ answer_of checked }
+{
+    of_counted(checked.map(|length| length.0))
 }
 
 // A write's length: from the place where it began.
-pub fn of_written(from: usize, written: Written) -> MtAnswer
+pub fn of_written(from: usize, written: Result<Place, Refusal>) -> MtAnswer
     requires { Past from written }
     ensures { result ≡ written_of from written }
 {
-    match written {
-        Written::Done(place) => accepted(place.0 - from),
-        Written::Refused(refusal) => refused(refusal),
-    }
+    of_counted(written.map(|place| place.0 - from))
 }
 
-fn of_entry(entry: Entry) -> MtEntry
-    ensures { result ≡ entry_of entry }
-{
-    match entry {
-        Entry::Absent => MtEntry {
-            kind: 0,
-            value: 0,
-            length: 0,
-        },
-        Entry::Number(number) => MtEntry {
-            kind: 1,
-            value: number as u64,
-            length: 0,
-        },
-        Entry::Text(place, length) => MtEntry {
-            kind: 2,
-            value: place.0 as u64,
-            length: length.0 as u64,
-        },
+impl From<Entry> for MtEntry {
+    ghost from_gives = { λ entry result. result ≡ entry_of entry };
+
+    fn from(entry: Entry) -> MtEntry {
+        match entry {
+            Entry::Absent => MtEntry::default(),
+            Entry::Number(number) => MtEntry {
+                kind: 1,
+                value: u64::from(number),
+                length: 0,
+            },
+            Entry::Text(place, length) => MtEntry {
+                kind: 2,
+                value: place.0 as u64,
+                length: length.0 as u64,
+            },
+        }
     }
 }
 
 fn of_fields(fields: Fields) -> MtFields
     ensures { result ≡ fields_of fields }
 {
-    let object = fields.object;
-    let interface = fields.interface;
-    let member = fields.member;
-    let error_name = fields.error_name;
-    let response_serial = fields.response_serial;
-    let destination = fields.destination;
-    let sender = fields.sender;
-    let signature = fields.signature;
-    let num_fds = fields.num_fds;
     MtFields {
-        object: of_entry(object),
-        interface: of_entry(interface),
-        member: of_entry(member),
-        error_name: of_entry(error_name),
-        response_serial: of_entry(response_serial),
-        destination: of_entry(destination),
-        sender: of_entry(sender),
-        signature: of_entry(signature),
-        num_fds: of_entry(num_fds),
+        object: fields.object.into(),
+        interface: fields.interface.into(),
+        member: fields.member.into(),
+        error_name: fields.error_name.into(),
+        response_serial: fields.response_serial.into(),
+        destination: fields.destination.into(),
+        sender: fields.sender.into(),
+        signature: fields.signature.into(),
+        num_fds: fields.num_fds.into(),
     }
 }
 
-fn no_fields() -> Fields
-    ensures { result ≡ no_fields }
-{
-    Fields {
-        object: Entry::Absent,
-        interface: Entry::Absent,
-        member: Entry::Absent,
-        error_name: Entry::Absent,
-        response_serial: Entry::Absent,
-        destination: Entry::Absent,
-        sender: Entry::Absent,
-        signature: Entry::Absent,
-        num_fds: Entry::Absent,
-    }
-}
+impl From<Header> for MtHeader {
+    ghost from_gives = { λ header result. result ≡ header_of header };
 
-fn of_header(header: Header) -> MtHeader
-    ensures { result ≡ header_of header }
-{
-    let order = header.order;
-    let kind = header.kind;
-    let length = header.length;
-    let body = header.body;
-    let body_length = header.body_length;
-    let fields = header.fields;
-    MtHeader {
-        answer: accepted(length.0),
-        big: is_big(order),
-        kind: meaning::kind_code(kind),
-        flags: header.flags,
-        version: header.version,
-        serial: header.serial,
-        body_place: body.0 as u64,
-        body_length: body_length.0 as u64,
-        fields: of_fields(fields),
+    fn from(header: Header) -> MtHeader {
+        MtHeader {
+            answer: accepted(header.length.0),
+            big: header.order == Order::Big,
+            kind: meaning::kind_code(header.kind),
+            flags: header.flags,
+            version: header.version,
+            serial: header.serial,
+            body_place: header.body.0 as u64,
+            body_length: header.body_length.0 as u64,
+            fields: of_fields(header.fields),
+        }
     }
 }
 
 fn no_header(refusal: Refusal) -> MtHeader
-    ensures { result ≡ read_of (HeaderRead.Refused refusal) }
+    ensures { result ≡ read_of (Err refusal) }
 {
     MtHeader {
         answer: refused(refusal),
-        big: false,
-        kind: 0,
-        flags: 0,
-        version: 0,
-        serial: 0,
-        body_place: 0,
-        body_length: 0,
-        fields: of_fields(no_fields()),
+        ..MtHeader::default()
     }
 }
 
 // What is handed out of a message: its header, or its refusal and nothing beside it.
-pub fn of_read(read: HeaderRead) -> MtHeader
+pub fn of_read(read: Result<Header, Refusal>) -> MtHeader
     ensures { result ≡ read_of read }
 {
     match read {
-        HeaderRead::Read(header) => of_header(header),
-        HeaderRead::Refused(refusal) => no_header(refusal),
+        Ok(header) => header.into(),
+        Err(refusal) => no_header(refusal),
     }
 }
 
@@ -248,12 +194,7 @@ pub fn of_found(entry: Entry, fallback: usize) -> MtPart
             place: place.0 as u64,
             length: length.0 as u64,
         },
-        Entry::Number(_) => MtPart {
-            in_message: false,
-            place: 0,
-            length: fallback as u64,
-        },
-        Entry::Absent => MtPart {
+        Entry::Number(_) | Entry::Absent => MtPart {
             in_message: false,
             place: 0,
             length: fallback as u64,

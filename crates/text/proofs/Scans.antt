@@ -4,6 +4,8 @@ use native.Mathlib.Omega.{arith}
 use native.Mathlib.Numerals.{add-one}
 use mathlib.Core.Bool.{Bool, true, false, ◌&&◌, ◌||◌, not}
 use mathlib.Core.List.{List, [], ◌∷◌}
+use Rattle.std.specs.Prelude.{Option, Some, None, Result, Ok, Err}
+use mathlib.Core.Logic.{◌⊎◌, inl, inr}
 use mathlib.Core.Path.{◌≡◌, refl, ap, sym, subst, ◌∙◌}
 use lib.Dec.{eqb, leb}
 use lib.ListN.{length, drop, get_or, drop_of_length-le}
@@ -12,11 +14,10 @@ use borrow.Author.Tests.{le-leb, lt-leb, lt-ltb, ne_eqb, leb-true}
 use Rattle.meaning.specs.Text.{Lead, follow, no_lead, lead, scan, utf8, no_zero, between, pick}
 use Rattle.text.specs.Class.{class_of}
 use Rattle.text.specs.Verdict.{text_number, text_fault, plain_bytes, goes_on}
-use Rattle.text.specs.declared.Text.{Text}
-use Rattle.text.specs.declared.Text.TheVariants.{Fine, NotUtf8, HasZero}
+use Rattle.text.specs.declared.BadText.{BadText}
+use Rattle.text.specs.declared.BadText.TheVariants.{NotUtf8, HasZero}
+use Rattle.text.specs.declared.Class.{Class}
 use Rattle.text.specs.declared.Due.{Due}
-use Rattle.text.specs.declared.Step.{Step}
-use Rattle.text.specs.declared.Step.TheVariants.{Next, Wrong}
 use Rattle.text.proofs.Classes.{lead_of, says}
 
 -- a first byte
@@ -29,7 +30,7 @@ unfolding scan
 scan-lead b lo hi cs (follow n l h) e = rw (e, scan)
 scan-lead b lo hi cs no_lead e = rw (e, scan)
 
-pub by-class : (class : ℕ) (l : Lead) (r : Step) → lead_of class ≡ l → ((cs : List ℕ) → goes_on r cs ≡ after_lead l cs)
+pub by-class : (class : Class) (l : Lead) (r : Option Due) → lead_of class ≡ l → ((cs : List ℕ) → goes_on r cs ≡ after_lead l cs)
     → (b lo hi : ℕ) (cs : List ℕ) → b < 256 → class ≡ class_of b → goes_on r cs ≡ scan (b ∷ cs) 0 lo hi
 by-class class l r e f b lo hi cs h k = f cs ∙ sym (scan-lead b lo hi cs l ((says b class h k).leads ∙ e))
 
@@ -54,55 +55,36 @@ pub front : (s : List ℕ) (i : ℕ) → i < length s → drop i s ≡ get_or s 
 front s i h = rw (add-one, drop-cons s i 0)
 
 -- what the answers say
-pub not-utf8 : (s : List ℕ) → utf8 s ≡ false → text_number NotUtf8 ≡ text_fault s
+pub not-utf8 : (s : List ℕ) → utf8 s ≡ false → text_number (Err NotUtf8) ≡ text_fault s
 unfolding text_fault
 not-utf8 s e = rw e
 
-pub has-zero : (s : List ℕ) → utf8 s ≡ true → no_zero s ≡ false → text_number HasZero ≡ text_fault s
+pub has-zero : (s : List ℕ) → utf8 s ≡ true → no_zero s ≡ false → text_number (Err HasZero) ≡ text_fault s
 unfolding text_fault
 has-zero s e f = rw (e, f)
 
-pub fine : (s : List ℕ) → utf8 s ≡ true → no_zero s ≡ true → text_number Fine ≡ text_fault s
+pub fine : (s : List ℕ) → utf8 s ≡ true → no_zero s ≡ true → text_number (Ok tt) ≡ text_fault s
 unfolding text_fault
 fine s e f = rw (e, f)
 
-nonzero : (b : ℕ) → (b ≡ 0 → ⊥) → 1 ≤ b
-nonzero zero z = absurd (z refl)
-nonzero (suc b) z = omega arith
-
 -- one turn of the walk: u is whether the whole is UTF-8, v whether it has no zero
 module _ (s : List ℕ) (i : ℕ) (h : i < length s) where
-  scanned : (u : Bool) (d : Due) (r : Step) → u ≡ scan (drop i s) d.left d.low d.high
+  scanned : (u : Bool) (d : Due) (r : Option Due) → u ≡ scan (drop i s) d.left d.low d.high
       → ((cs : List ℕ) → goes_on r cs ≡ scan (get_or s i 0 ∷ cs) d.left d.low d.high) → u ≡ goes_on r (drop (i + 1) s)
   scanned u d r e f = e ∙ ap (λ (l : List ℕ). scan l d.left d.low d.high) (front s i h) ∙ sym (f (drop (i + 1) s))
 
-  pub scan-on : (u : Bool) (d : Due) (r : Step) (n : Due) → u ≡ scan (drop i s) d.left d.low d.high
-      → ((cs : List ℕ) → goes_on r cs ≡ scan (get_or s i 0 ∷ cs) d.left d.low d.high) → r ≡ Next n → u ≡ scan (drop (i + 1) s) n.left n.low n.high
-  scan-on u d r n e f q = scanned u d r e f ∙ ap (λ (x : Step). goes_on x (drop (i + 1) s)) q
+  pub scan-on : (u : Bool) (d : Due) (r : Option Due) (n : Due) → u ≡ scan (drop i s) d.left d.low d.high
+      → ((cs : List ℕ) → goes_on r cs ≡ scan (get_or s i 0 ∷ cs) d.left d.low d.high) → r ≡ Some n → u ≡ scan (drop (i + 1) s) n.left n.low n.high
+  scan-on u d r n e f q = scanned u d r e f ∙ ap (λ (x : Option Due). goes_on x (drop (i + 1) s)) q
 
-  pub scan-stop : (u : Bool) (d : Due) (r : Step) → u ≡ scan (drop i s) d.left d.low d.high
-      → ((cs : List ℕ) → goes_on r cs ≡ scan (get_or s i 0 ∷ cs) d.left d.low d.high) → r ≡ Wrong → u ≡ false
-  scan-stop u d r e f q = scanned u d r e f ∙ ap (λ (x : Step). goes_on x (drop (i + 1) s)) q
+  pub scan-stop : (u : Bool) (d : Due) (r : Option Due) → u ≡ scan (drop i s) d.left d.low d.high
+      → ((cs : List ℕ) → goes_on r cs ≡ scan (get_or s i 0 ∷ cs) d.left d.low d.high) → r ≡ None → u ≡ false
+  scan-stop u d r e f q = scanned u d r e f ∙ ap (λ (x : Option Due). goes_on x (drop (i + 1) s)) q
 
-  pub zero-on : (v z : Bool) (k : ℕ) → v ≡ (not z && no_zero (drop i s)) → eqb (get_or s i 0) 0 ≡ eqb k 0 → v ≡ (not (z || eqb k 0) && no_zero (drop (i + 1) s))
+  pub zero-on : (v z t : Bool) → v ≡ (not z && no_zero (drop i s)) → eqb (get_or s i 0) 0 ≡ t → v ≡ (not (z || t) && no_zero (drop (i + 1) s))
   unfolding no_zero
-  zero-on v true k e q = e
-  zero-on v false k e q = e ∙ rw (front s i h, q)
-
-  pub plain-on : (b : ℕ) → b ≡ get_or s i 0 → (b ≡ 0 → ⊥) → b ≤ 127 → plain_bytes (drop i s) ≡ suc (plain_bytes (drop (i + 1) s))
-  unfolding plain_bytes
-  plain-on b e z k =
-      let g : 1 ≤ get_or s i 0 = omega (arith, nonzero b z) in
-      let k2 : get_or s i 0 ≤ 127 = omega arith in
-      rw (front s i h, le-leb 1 (get_or s i 0) g, le-leb (get_or s i 0) 127 k2)
-
-  pub plain-zero : get_or s i 0 ≡ 0 → plain_bytes (drop i s) ≡ 0
-  unfolding plain_bytes
-  plain-zero e = rw (front s i h, e)
-
-  pub plain-high : 127 < get_or s i 0 → plain_bytes (drop i s) ≡ 0
-  unfolding plain_bytes
-  plain-high k = rw (front s i h, le-leb 1 (get_or s i 0) (omega arith), lt-leb (get_or s i 0) 127 k)
+  zero-on v true t e q = e
+  zero-on v false t e q = e ∙ rw (front s i h, q)
 
 -- past the last byte
 pub scan-end : (s : List ℕ) (i n lo hi : ℕ) → length s ≤ i → scan (drop i s) n lo hi ≡ eqb n 0
@@ -114,9 +96,19 @@ unfolding no_zero
 zero-end s i true h = refl
 zero-end s i false h = rw (drop_of_length-le s h)
 
-pub plain_end : (s : List ℕ) (i : ℕ) → length s ≤ i → plain_bytes (drop i s) ≡ 0
+-- the plain bytes that come first, by the first byte
+pub plain-none : plain_bytes [] ≡ 0
 unfolding plain_bytes
-plain_end s i h = rw (drop_of_length-le s h)
+plain-none = refl
+
+pub plain-stop : (c : ℕ) (cs : List ℕ) → (c ≡ 0) ⊎ (127 < c) → plain_bytes (c ∷ cs) ≡ 0
+unfolding plain_bytes
+plain-stop c cs (inl e) = rw e
+plain-stop c cs (inr h) = rw (le-leb 1 c (omega arith), lt-leb c 127 h)
+
+pub plain-more : (c : ℕ) (cs : List ℕ) → (1 ≤ c) × (c ≤ 127) → plain_bytes (c ∷ cs) ≡ plain_bytes cs + 1
+unfolding plain_bytes
+plain-more c cs h = rw (le-leb 1 c h.0, le-leb c 127 h.1, add-one)
 
 -- plain bytes change nothing of the answer
 Same : List ℕ → List ℕ → Type 0
@@ -142,7 +134,7 @@ pub plain-skip : (s : List ℕ) → text_fault s ≡ text_fault (drop (plain_byt
 unfolding text_fault Same
 plain-skip s = rw ((plain-all s).0, (plain-all s).1)
 
-pub plain-whole : (s : List ℕ) → plain_bytes s ≡ length s → text_number Fine ≡ text_fault s
+pub plain-whole : (s : List ℕ) → plain_bytes s ≡ length s → text_number (Ok tt) ≡ text_fault s
 unfolding text_fault utf8 scan no_zero
 plain-whole s e = let z : drop (plain_bytes s) s ≡ [] = rw e (drop-length s) in sym (plain-skip s ∙ ap text_fault z)
 
@@ -155,33 +147,37 @@ plain-le (c ∷ cs) = go (between 1 127 c) (plain-le cs)
     go true h = omega arith
     go false h = omega arith
 
+-- an answer: nothing, or what is wrong
+abbrev pub Answer : Type 0
+Answer = Result (Unit {0}) BadText
+
 -- no two answers have one number
-numbered : ℕ → Text
-numbered n = pick (eqb n 0) Fine (pick (eqb n 6) NotUtf8 HasZero)
+numbered : ℕ → Answer
+numbered n = pick (eqb n 0) (Ok tt) (pick (eqb n 6) (Err NotUtf8) (Err HasZero))
 
-numbered_is : (t : Text) → numbered (text_number t) ≡ t
+numbered_is : (t : Answer) → numbered (text_number t) ≡ t
 unfolding numbered
-numbered_is Fine = refl
-numbered_is NotUtf8 = refl
-numbered_is HasZero = refl
+numbered_is (Ok u) = refl
+numbered_is (Err NotUtf8) = refl
+numbered_is (Err HasZero) = refl
 
-pub same_number : (t u : Text) → text_number t ≡ text_number u → t ≡ u
+pub same_number : (t u : Answer) → text_number t ≡ text_number u → t ≡ u
 same_number t u e = sym (numbered_is t) ∙ ap numbered e ∙ numbered_is u
 
 -- what each answer says, for whoever asks
-abbrev pub Says : Text → List ℕ → Type 0
-Says Fine s = (utf8 s ≡ true) × (no_zero s ≡ true)
-Says NotUtf8 s = utf8 s ≡ false
-Says HasZero s = (utf8 s ≡ true) × (no_zero s ≡ false)
+abbrev pub Says : Answer → List ℕ → Type 0
+Says (Ok u) s = (utf8 s ≡ true) × (no_zero s ≡ true)
+Says (Err NotUtf8) s = utf8 s ≡ false
+Says (Err HasZero) s = (utf8 s ≡ true) × (no_zero s ≡ false)
 
-verdict : List ℕ → Text
-verdict s = pick (utf8 s) (pick (no_zero s) Fine HasZero) NotUtf8
+verdict : List ℕ → Answer
+verdict s = pick (utf8 s) (pick (no_zero s) (Ok tt) (Err HasZero)) (Err NotUtf8)
 
-pub text_says : (t : Text) (s : List ℕ) → text_number t ≡ text_fault s → Says t s
+pub text_says : (t : Answer) (s : List ℕ) → text_number t ≡ text_fault s → Says t s
 unfolding text_fault verdict
 text_says t s e =
     let v = go (utf8 s) (no_zero s) refl refl in
-    subst (λ (x : Text). Says x s) (same_number (verdict s) t (v.0 ∙ sym e)) v.1
+    subst (λ (x : Answer). Says x s) (same_number (verdict s) t (v.0 ∙ sym e)) v.1
   where
     go : (p q : Bool) → utf8 s ≡ p → no_zero s ≡ q → (text_number (verdict s) ≡ text_fault s) × Says (verdict s) s
     go true true f g = rw (f, g) (refl, (f, g))

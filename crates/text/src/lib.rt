@@ -3,100 +3,112 @@
 
 pub mod strings;
 
-ghost use Rattle.std.specs.Prelude.{◌≡◌, true, List, ◌∷◌, ℕ, ◌≤◌, ◌<◌, length, drop};
+ghost use Rattle.std.specs.Prelude.{◌≡◌, true, List, ◌∷◌, ℕ, ◌<◌};
 ghost use Rattle.meaning.specs.Text.{scan, names, is_path};
 ghost use Rattle.text.specs.Class.{class_of};
 ghost use Rattle.text.specs.Verdict.{text_number, text_fault, plain_bytes, goes_on};
 
-// The class of every byte value: 0 the zero byte, 1 any other ASCII but 2 the slash and 3 the bytes of a name; 4 never first in a character;
-// and the first bytes by what has to follow them, 5 (c2 to df), 6 (e0), 7 (e1 to ec, ee, ef), 8 (ed), 9 (f0), 10 (f1 to f3), 11 (f4).
-// Each use builds the table anew: it is fetched once, before a loop.
-const CLASS: [u8; 256] = [
-    0, 1, 1, 1, 1, 1, 1, 1, 1, 1, 1, 1, 1, 1, 1, 1, 1, 1, 1, 1, 1, 1, 1, 1, 1, 1, 1, 1, 1, 1, 1, 1,
-    1, 1, 1, 1, 1, 1, 1, 1, 1, 1, 1, 1, 1, 1, 1, 2, 3, 3, 3, 3, 3, 3, 3, 3, 3, 3, 1, 1, 1, 1, 1, 1,
-    1, 3, 3, 3, 3, 3, 3, 3, 3, 3, 3, 3, 3, 3, 3, 3, 3, 3, 3, 3, 3, 3, 3, 3, 3, 3, 3, 1, 1, 1, 1, 3,
-    1, 3, 3, 3, 3, 3, 3, 3, 3, 3, 3, 3, 3, 3, 3, 3, 3, 3, 3, 3, 3, 3, 3, 3, 3, 3, 3, 1, 1, 1, 1, 1,
-    4, 4, 4, 4, 4, 4, 4, 4, 4, 4, 4, 4, 4, 4, 4, 4, 4, 4, 4, 4, 4, 4, 4, 4, 4, 4, 4, 4, 4, 4, 4, 4,
-    4, 4, 4, 4, 4, 4, 4, 4, 4, 4, 4, 4, 4, 4, 4, 4, 4, 4, 4, 4, 4, 4, 4, 4, 4, 4, 4, 4, 4, 4, 4, 4,
-    4, 4, 5, 5, 5, 5, 5, 5, 5, 5, 5, 5, 5, 5, 5, 5, 5, 5, 5, 5, 5, 5, 5, 5, 5, 5, 5, 5, 5, 5, 5, 5,
-    6, 7, 7, 7, 7, 7, 7, 7, 7, 7, 7, 7, 7, 8, 7, 7, 9, 10, 10, 10, 11, 4, 4, 4, 4, 4, 4, 4, 4, 4,
-    4, 4,
+use Class::*;
+
+// The class of a byte: what it is for a path, and what it asks for as the first of a character. ASCII is a character by itself; of the others,
+// by what has to follow them: Two c2 to df; LowThree e0, Three e1 to ec, ee and ef, SurThree ed; LowFour f0, Four f1 to f3, TopFour f4.
+#[derive(Clone, Copy, Debug, PartialEq, Eq)]
+enum Class {
+    Zero,
+    Plain,
+    Slash,
+    Name,
+    Never,
+    Two,
+    LowThree,
+    Three,
+    SurThree,
+    LowFour,
+    Four,
+    TopFour,
+}
+
+// The class of every byte value. Each use builds the table anew: it is fetched once, before a loop.
+const CLASS: [Class; 256] = [
+    Zero, Plain, Plain, Plain, Plain, Plain, Plain, Plain, Plain, Plain, Plain, Plain, Plain,
+    Plain, Plain, Plain, Plain, Plain, Plain, Plain, Plain, Plain, Plain, Plain, Plain, Plain,
+    Plain, Plain, Plain, Plain, Plain, Plain, Plain, Plain, Plain, Plain, Plain, Plain, Plain,
+    Plain, Plain, Plain, Plain, Plain, Plain, Plain, Plain, Slash, Name, Name, Name, Name, Name,
+    Name, Name, Name, Name, Name, Plain, Plain, Plain, Plain, Plain, Plain, Plain, Name, Name,
+    Name, Name, Name, Name, Name, Name, Name, Name, Name, Name, Name, Name, Name, Name, Name, Name,
+    Name, Name, Name, Name, Name, Name, Name, Name, Plain, Plain, Plain, Plain, Name, Plain, Name,
+    Name, Name, Name, Name, Name, Name, Name, Name, Name, Name, Name, Name, Name, Name, Name, Name,
+    Name, Name, Name, Name, Name, Name, Name, Name, Name, Plain, Plain, Plain, Plain, Plain, Never,
+    Never, Never, Never, Never, Never, Never, Never, Never, Never, Never, Never, Never, Never,
+    Never, Never, Never, Never, Never, Never, Never, Never, Never, Never, Never, Never, Never,
+    Never, Never, Never, Never, Never, Never, Never, Never, Never, Never, Never, Never, Never,
+    Never, Never, Never, Never, Never, Never, Never, Never, Never, Never, Never, Never, Never,
+    Never, Never, Never, Never, Never, Never, Never, Never, Never, Never, Never, Never, Never, Two,
+    Two, Two, Two, Two, Two, Two, Two, Two, Two, Two, Two, Two, Two, Two, Two, Two, Two, Two, Two,
+    Two, Two, Two, Two, Two, Two, Two, Two, Two, Two, LowThree, Three, Three, Three, Three, Three,
+    Three, Three, Three, Three, Three, Three, Three, SurThree, Three, Three, LowFour, Four, Four,
+    Four, TopFour, Never, Never, Never, Never, Never, Never, Never, Never, Never, Never, Never,
 ];
 
-#[derive(Clone, Copy)]
-pub enum Text {
-    Fine,
+// What is wrong with a text.
+#[derive(Clone, Copy, Debug, PartialEq, Eq)]
+pub enum BadText {
     NotUtf8,
     HasZero,
 }
 
 // What is still due of a character: how many bytes, and the bounds of the next.
-#[derive(Clone, Copy)]
+#[derive(Clone, Copy, Debug, PartialEq, Eq)]
 struct Due {
     left: usize,
     low: u8,
     high: u8,
 }
 
-#[derive(Clone, Copy)]
-enum Step {
-    Next(Due),
-    Wrong,
-}
-
-fn asks(left: usize, low: u8, high: u8) -> Step
+fn asks(left: usize, low: u8, high: u8) -> Option<Due>
     ensures { (cs : List ℕ) → goes_on result cs ≡ scan cs left low high }
 {
-    Step::Next(Due { left, low, high })
+    Some(Due { left, low, high })
 }
 
-// What a first byte of a class asks for.
-fn first(class: u8) -> Step
+// What a first byte of a class asks for, `None` where no character begins with it.
+// ASCII is asked for alone: as an arm of the match it goes by the jump table of all, three instructions more a byte.
+fn first(class: Class) -> Option<Due>
     ensures { (b lo hi : ℕ) (cs : List ℕ) → b < 256 → class ≡ class_of b → goes_on result cs ≡ scan (b ∷ cs) 0 lo hi }
 {
-    if class < 4 {
-        asks(0, 0, 0)
-    } else if class == 5 {
-        asks(1, 0x80, 0xbf)
-    } else if class == 6 {
-        asks(2, 0xa0, 0xbf)
-    } else if class == 7 {
-        asks(2, 0x80, 0xbf)
-    } else if class == 8 {
-        asks(2, 0x80, 0x9f)
-    } else if class == 9 {
-        asks(3, 0x90, 0xbf)
-    } else if class == 10 {
-        asks(3, 0x80, 0xbf)
-    } else if class == 11 {
-        asks(3, 0x80, 0x8f)
-    } else {
-        Step::Wrong
+    if matches!(class, Zero | Plain | Slash | Name) {
+        return asks(0, 0, 0);
+    }
+    match class {
+        Two => asks(1, 0x80, 0xbf),
+        LowThree => asks(2, 0xa0, 0xbf),
+        Three => asks(2, 0x80, 0xbf),
+        SurThree => asks(2, 0x80, 0x9f),
+        LowFour => asks(3, 0x90, 0xbf),
+        Four => asks(3, 0x80, 0xbf),
+        TopFour => asks(3, 0x80, 0x8f),
+        _ => None,
     }
 }
 
 // One byte more.
-fn one_more(due: Due, class: u8, b: u8) -> Step
+fn one_more(due: Due, class: Class, b: u8) -> Option<Due>
     requires { class ≡ class_of b }
     ensures { (cs : List ℕ) → goes_on result cs ≡ scan (b ∷ cs) due.left due.low due.high }
 {
-    let left = due.left;
-    if left == 0 {
-        return first(class);
+    if due.left == 0 {
+        first(class)
+    } else if due.low <= b && b <= due.high {
+        asks(due.left - 1, 0x80, 0xbf)
+    } else {
+        None
     }
-    if b < due.low {
-        return Step::Wrong;
-    }
-    if due.high < b {
-        return Step::Wrong;
-    }
-    asks(left - 1, 0x80, 0xbf)
 }
 
-// The check of what stands from `from` on, by classes.
-fn walk(s: &[u8], from: usize) -> Text
-    requires { from ≤ length s.now }
-    ensures { text_number result ≡ text_fault (drop from s.now) }
+// The check by classes. Inlined after `plain_bytes` its loop counts twice, an instruction more a byte.
+#[inline(never)]
+fn walk(s: &[u8]) -> Result<(), BadText>
+    ensures { text_number result ≡ text_fault s.now }
 {
     let classes = CLASS;
     let mut at = Due {
@@ -105,79 +117,52 @@ fn walk(s: &[u8], from: usize) -> Text
         high: 0,
     };
     let mut zero = false;
-    let mut i = from;
-    while i < s.len() {
-        let b = s[i];
-        let class = classes[b as usize];
-        match one_more(at, class, b) {
-            Step::Next(next) => {
-                at = next;
-            }
-            Step::Wrong => {
-                return Text::NotUtf8;
-            }
-        }
-        zero = zero | (class == 0);
-        i += 1;
+    for b in s {
+        let class = classes[*b as usize];
+        at = one_more(at, class, *b).ok_or(BadText::NotUtf8)?;
+        zero |= class == Zero;
     }
-    let left = at.left;
-    if left != 0 {
-        return Text::NotUtf8;
+    if at.left != 0 {
+        return Err(BadText::NotUtf8);
     }
-    if zero { Text::HasZero } else { Text::Fine }
+    if zero { Err(BadText::HasZero) } else { Ok(()) }
 }
 
 // How many bytes from 1 to 127 `s` begins with.
 fn plain_bytes(s: &[u8]) -> usize
     ensures { result ≡ plain_bytes s.now }
 {
-    let mut i = 0;
-    while i < s.len() {
-        let b = s[i];
-        if b == 0 {
-            return i;
-        }
-        if 127 < b {
-            return i;
-        }
-        i += 1;
-    }
-    i
+    s.iter()
+        .position(|b| *b == 0 || 127 < *b)
+        .unwrap_or(s.len())
 }
 
 // Whether `s` is UTF-8 and has no zero byte. Plain text, by far the most, needs no table.
-pub fn check_text(s: &[u8]) -> Text
+pub fn check_text(s: &[u8]) -> Result<(), BadText>
     ensures { text_number result ≡ text_fault s.now }
 {
     let plain = plain_bytes(s);
     if plain == s.len() {
-        return Text::Fine;
+        return Ok(());
     }
-    walk(s, plain)
+    walk(&s[plain..])
 }
 
-// Whether names stand after the first byte, with a slash between each two.
+// Whether these are names, with a slash between each two.
 fn are_names(s: &[u8]) -> bool
-    requires { 0 < length s.now }
-    ensures { result ≡ names (drop 1 s.now) true }
+    ensures { result ≡ names s.now true }
 {
     let classes = CLASS;
     let mut after_slash = true;
-    let mut i = 1;
-    while i < s.len() {
-        let class = classes[s[i] as usize];
-        if class == 3 {
+    for b in s {
+        let class = classes[*b as usize];
+        if class == Name {
             after_slash = false;
-        } else {
-            if class != 2 {
-                return false;
-            }
-            if after_slash {
-                return false;
-            }
+        } else if class == Slash && !after_slash {
             after_slash = true;
+        } else {
+            return false;
         }
-        i += 1;
     }
     !after_slash
 }
@@ -186,14 +171,9 @@ fn are_names(s: &[u8]) -> bool
 pub fn is_path(s: &[u8]) -> bool
     ensures { result ≡ is_path s.now }
 {
-    if s.len() == 0 {
-        return false;
+    match s {
+        [b'/'] => true,
+        [b'/', rest @ ..] => are_names(rest),
+        _ => false,
     }
-    if s[0] != b'/' {
-        return false;
-    }
-    if s.len() == 1 {
-        return true;
-    }
-    are_names(s)
 }

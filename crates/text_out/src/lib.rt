@@ -1,4 +1,5 @@
 // Text put into a buffer that the caller lends: bytes as they are, numbers, and bytes in hexadecimal.
+// Not into a `String`: no function here can fail, and each says every byte of the buffer (`Puts`); a `String` and `write!` can run out of memory.
 #![tactic(auto)]
 
 ghost use Rattle.std.specs.Prelude.{◌≡◌, [], ◌∷◌, ◌+◌, ◌*◌, ◌≤◌, ◌<◌, length};

@@ -4,194 +4,137 @@
 // see nothing from the end on (string, path, signature, padding to 8). Where there is an order, little comes first. A line with # is a title.
 #![tactic(auto)]
 
-use meaning::{Checked, Integer, Order, Place, Reached, Refusal};
-use question_lines::Taken;
+ghost use Rattle.std.specs.Prelude.{◌≤◌, length};
+
+use meaning::{Length, Order, Place, Refusal};
 use std::io;
-use text::{Text, strings};
+use std::io::{BufRead, BufReader, Read};
+use text::{BadText, strings};
 use util::integers;
 
-const INPUT: usize = 65536;
+// How much of the input is read.
+const INPUT: u64 = 65536;
 
-fn put(rt: &impl Print, s: &[u8]) -> io::Result<()> {
-    rt.write_all(s)
-}
-
-fn put_number(rt: &impl Print, n: u64) -> io::Result<()> {
-    rt.print(n)
-}
-
-fn put_labelled(rt: &impl Print, word: &[u8], n: usize) -> io::Result<()> {
-    put(rt, word)?;
-    put_number(rt, n as u64)
-}
+// How many bytes a case has at most.
+const BYTES: usize = 64;
 
 fn put_refusal(rt: &impl Print, r: Refusal) -> io::Result<()> {
-    let fault = r.fault;
-    let place = r.place;
-    put_labelled(rt, b" no ", meaning::number(fault) as usize)?;
-    put_labelled(rt, b" at ", place.0)
+    let Refusal { fault, place } = r;
+    print!(rt; " no {} at {}", meaning::number(fault), place.0)
 }
 
-fn put_checked(rt: &impl Print, c: Checked) -> io::Result<()> {
+fn put_checked(rt: &impl Print, c: Result<Length, Refusal>) -> io::Result<()> {
     match c {
-        Checked::Accepted(length) => put_labelled(rt, b" ok ", length.0),
-        Checked::Refused(r) => put_refusal(rt, r),
+        Ok(length) => print!(rt; " ok {}", length.0),
+        Err(r) => put_refusal(rt, r),
     }
 }
 
-fn put_reached(rt: &impl Print, c: Reached) -> io::Result<()> {
+fn put_reached(rt: &impl Print, c: Result<Place, Refusal>) -> io::Result<()> {
     match c {
-        Reached::At(place) => put_labelled(rt, b" to ", place.0),
-        Reached::Refused(r) => put_refusal(rt, r),
+        Ok(place) => print!(rt; " to {}", place.0),
+        Err(r) => put_refusal(rt, r),
     }
 }
 
-fn put_integer(rt: &impl Print, i: Integer) -> io::Result<()> {
+fn put_integer(rt: &impl Print, i: Result<u64, Refusal>) -> io::Result<()> {
     match i {
-        Integer::Read(n) => {
-            put(rt, b" ")?;
-            put_number(rt, n)?;
-        }
-        Integer::Refused(r) => put_refusal(rt, r)?,
+        Ok(n) => print!(rt; " {n}")?,
+        Err(r) => put_refusal(rt, r)?,
     }
-    put(rt, b",")
+    rt.print(",")
 }
 
-fn integers(rt: &impl Print, order: Order, off: usize, buf: &[u8]) -> io::Result<()> {
-    put_integer(rt, integers::parse_u16(order, Place(off), buf))?;
-    put_integer(rt, integers::parse_u32(order, Place(off), buf))?;
-    put_integer(rt, integers::parse_u64(order, Place(off), buf))
+fn integers(rt: &impl Print, order: Order, off: Place, buf: &[u8]) -> io::Result<()> {
+    put_integer(rt, integers::parse_u16(order, off, buf))?;
+    put_integer(rt, integers::parse_u32(order, off, buf))?;
+    put_integer(rt, integers::parse_u64(order, off, buf))
 }
 
-fn strings(rt: &impl Print, off: usize, buf: &[u8]) -> io::Result<()> {
-    put_checked(rt, strings::unmarshal_str(Order::Little, Place(off), buf))?;
-    put(rt, b",")?;
-    put_checked(rt, strings::unmarshal_str(Order::Big, Place(off), buf))
+fn both_orders<F: Fn(Order) -> Result<Length, Refusal>>(rt: &impl Print, read: F) -> io::Result<()>
+    requires { F.IsAlwaysCallable read }
+{
+    put_checked(rt, read(Order::Little))?;
+    rt.print(",")?;
+    put_checked(rt, read(Order::Big))
 }
 
-fn object_paths(rt: &impl Print, off: usize, buf: &[u8]) -> io::Result<()> {
-    put_checked(
-        rt,
-        strings::unmarshal_object_path(Order::Little, Place(off), buf),
-    )?;
-    put(rt, b",")?;
-    put_checked(
-        rt,
-        strings::unmarshal_object_path(Order::Big, Place(off), buf),
-    )
-}
-
+// What the readers see of a buffer up to its end, from an offset before that.
 fn windows(rt: &impl Print, end: usize, off: usize, buf: &[u8]) -> io::Result<()> {
-    if buf.len() < end {
+    if buf.len() < end || end < off {
         return Ok(());
     }
-    if end < off {
-        return Ok(());
-    }
-    put_reached(rt, strings::read_string(Order::Little, buf, end, off))?;
-    put(rt, b",")?;
-    put_reached(rt, strings::read_path(Order::Little, buf, end, off))?;
-    put(rt, b",")?;
-    put_reached(rt, strings::read_signature_text(buf, end, off))?;
-    put(rt, b",")?;
-    put_reached(rt, util::padded(buf, end, off, 8))
+    let seen = &buf[..end];
+    put_reached(rt, strings::read_string(Order::Little, seen, off))?;
+    rt.print(",")?;
+    put_reached(rt, strings::read_path(Order::Little, seen, off))?;
+    rt.print(",")?;
+    put_reached(rt, strings::read_signature_text(seen, off))?;
+    rt.print(",")?;
+    put_reached(rt, util::padded(seen, off, 8))
 }
 
 fn check_text(rt: &impl Print, s: &[u8]) -> io::Result<()> {
-    match text::check_text(s) {
-        Text::Fine => put(rt, b" fine"),
-        Text::NotUtf8 => put(rt, b" not UTF-8"),
-        Text::HasZero => put(rt, b" has a zero"),
-    }
+    rt.print(match text::check_text(s) {
+        Ok(()) => " fine",
+        Err(BadText::NotUtf8) => " not UTF-8",
+        Err(BadText::HasZero) => " has a zero",
+    })
 }
 
 fn is_path(rt: &impl Print, s: &[u8]) -> io::Result<()> {
-    if text::is_path(s) {
-        put(rt, b" yes")
-    } else {
-        put(rt, b" no")
-    }
+    rt.print(if text::is_path(s) { " yes" } else { " no" })
 }
 
-fn wide(x: u8) -> usize {
-    x as usize
-}
-
-// A case with two numbers before its buffer.
-fn of_two(rt: &impl Print, kind: u8, first: usize, s: &[u8]) -> io::Result<()> {
-    if s.len() == 0 {
-        return Ok(());
-    }
-    let off = wide(s[0]);
-    if kind == b'a' {
-        put_checked(rt, util::align_offset(first, Place(off), &s[1..]))
-    } else {
-        windows(rt, first, off, &s[1..])
-    }
-}
-
-// A case with one.
-fn of_one(rt: &impl Print, kind: u8, off: usize, buf: &[u8]) -> io::Result<()> {
-    if kind == b'i' {
-        integers(rt, Order::Little, off, buf)?;
-        integers(rt, Order::Big, off, buf)
-    } else if kind == b's' {
-        strings(rt, off, buf)
-    } else if kind == b'o' {
-        object_paths(rt, off, buf)
-    } else if kind == b'g' {
-        put_checked(rt, strings::unmarshal_signature_text(Place(off), buf))
-    } else {
-        of_two(rt, kind, off, buf)
-    }
-}
-
+// A case by its letter; one without the numbers that it takes has no answer. Any letter that is not listed is a `w`.
 fn run(rt: &impl Print, kind: u8, s: &[u8]) -> io::Result<()> {
-    if kind == b't' {
-        return check_text(rt, s);
+    match (kind, s) {
+        (b't', _) => check_text(rt, s),
+        (b'p', _) => is_path(rt, s),
+        (b'i', [off, buf @ ..]) => {
+            let off = Place(usize::from(*off));
+            integers(rt, Order::Little, off, buf)?;
+            integers(rt, Order::Big, off, buf)
+        }
+        (b's', [off, buf @ ..]) => {
+            let off = Place(usize::from(*off));
+            both_orders(rt, |order| strings::unmarshal_str(order, off, buf))
+        }
+        (b'o', [off, buf @ ..]) => {
+            let off = Place(usize::from(*off));
+            both_orders(rt, |order| strings::unmarshal_object_path(order, off, buf))
+        }
+        (b'g', [off, buf @ ..]) => {
+            let off = Place(usize::from(*off));
+            put_checked(rt, strings::unmarshal_signature_text(off, buf))
+        }
+        (b'a', [align, off, buf @ ..]) => {
+            let off = Place(usize::from(*off));
+            put_checked(rt, util::align_offset(usize::from(*align), off, buf))
+        }
+        (_, [end, off, buf @ ..]) => windows(rt, usize::from(*end), usize::from(*off), buf),
+        _ => Ok(()),
     }
-    if kind == b'p' {
-        return is_path(rt, s);
-    }
-    if s.len() == 0 {
-        return Ok(());
-    }
-    of_one(rt, kind, wide(s[0]), &s[1..])
 }
 
 fn case(rt: &impl Print, line: &[u8]) -> io::Result<()> {
-    put(rt, line)?;
-    if line.len() == 0 {
-        return Ok(());
-    }
-    let kind = line[0];
-    if kind == b'#' {
-        return Ok(());
-    }
-    let mut out = [0u8; 64];
-    let Taken::Bytes(n) = question_lines::bytes_of(question_lines::tail(line), &mut out) else {
+    rt.write_all(line)?;
+    let Some(kind) = line.first().copied().filter(|kind| *kind != b'#') else {
         return Ok(());
     };
-    put(rt, b":")?;
-    run(rt, kind, question_lines::first(&out, n))
-}
-
-fn cases(rt: &impl Print, s: &[u8]) -> io::Result<()> {
-    let mut at = 0;
-    while at < s.len() {
-        let end = question_lines::find(s, at, s.len(), b'\n');
-        case(rt, &s[at..end])?;
-        put(rt, b"\n")?;
-        if end == s.len() {
-            return Ok(());
-        }
-        at = end + 1;
-    }
-    Ok(())
+    let mut bytes = [0u8; BYTES];
+    let Some(n) = question_lines::bytes_of(question_lines::tail(line), &mut bytes) else {
+        return Ok(());
+    };
+    rt.print(":")?;
+    run(rt, kind, question_lines::first(&bytes, n))
 }
 
 fn main(rt: HostRuntime) -> io::Result<()> {
-    let mut input = [0u8; INPUT];
-    let n = question_lines::read_full(&mut rt.stdin(), &mut input)?;
-    cases(&rt, &input[..n])
+    let input = BufReader::new(rt.alloc(), rt.stdin().take(INPUT))?;
+    for line in input.split(rt.alloc(), b'\n') {
+        case(&rt, &line?)?;
+        rt.print("\n")?;
+    }
+    Ok(())
 }

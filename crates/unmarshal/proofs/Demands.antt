@@ -3,8 +3,9 @@ use Prim.Native.Nat.{ℕ, ◌-◌}
 use native.Mathlib.Omega.{arith}
 use mathlib.Core.List.{List}
 use mathlib.Core.Path.{◌≡◌, refl, ap, ◌∙◌}
-use Rattle.meaning.specs.declared.HeaderRead.{HeaderRead}
-use Rattle.meaning.specs.declared.HeaderRead.TheVariants.{Read, Refused}
+use Rattle.std.specs.Prelude.{Result, Ok, Err}
+use Rattle.meaning.specs.declared.Header.{Header}
+use Rattle.meaning.specs.declared.Refusal.{Refusal}
 use Rattle.meaning.specs.Reader.{Res, got, fault}
 use Rattle.meaning.specs.Message.{Message}
 use Rattle.meaning.specs.ReadValue.{checked_of}
@@ -14,9 +15,9 @@ use Rattle.meaning.proofs.Promises.{Told, accepts, refuses, told_of, Answered, M
 use Rattle.unmarshal.proofs.unmarshal_header.Reads as unmarshal-header
 
 -- a header that is read says how long its message is
-abbrev pub told_header : HeaderRead → Told
-told_header (Read h) = accepts h.length.0
-told_header (Refused x) = refuses x
+abbrev pub told_header : Result Header Refusal → Told
+told_header (Ok h) = accepts h.length.0
+told_header (Err x) = refuses x
 
 header-from : (x : Res Message) → told_header (header_from x) ≡ told_of (checked_of 0 x)
 header-from (got m n) = let e : n ≡ n - 0 = omega arith in ap accepts e

@@ -12,7 +12,7 @@ use Rattle.meaning.specs.declared.Fields.{Fields}
 use Rattle.header.specs.declared.fixed_header.Start.{Start}
 use Rattle.header.specs.FixedHeader.{start_of}
 use Rattle.meaning.specs.Header.{fields_from}
-use Rattle.unmarshal.specs.declared.body.Part.{Part}
+use Rattle.meaning.specs.declared.Part.{Part}
 
 -- a signature of types
 pub record Types (s : List ℕ) : Type 0 where

@@ -2,17 +2,12 @@
 ghost use Rattle.std.specs.Prelude.{◌≡◌};
 ghost use Rattle.meaning.specs.ReadMessage.{check_message};
 
-use meaning::{Checked, HeaderRead};
+use meaning::{Length, Refusal};
 
 // Whether the buffer begins with a message, and how long it is.
-pub fn check_message(buf: &[u8]) -> Checked
+pub fn check_message(buf: &[u8]) -> Result<Length, Refusal>
     ensures { result ≡ check_message buf.now }
 {
-    match crate::unmarshal_header(buf) {
-        HeaderRead::Read(header) => {
-            let length = header.length;
-            Checked::Accepted(length)
-        }
-        HeaderRead::Refused(refusal) => Checked::Refused(refusal),
-    }
+    let header = crate::unmarshal_header(buf)?;
+    Ok(header.length)
 }

@@ -9,9 +9,9 @@ ghost use Rattle.meaning.specs.ReadValue.{padding};
 ghost use Rattle.meaning.specs.Reader.{reached_of};
 ghost use Rattle.meaning.specs.Reads.{check_padding};
 ghost use Rattle.meaning.specs.Writers.{is_alignment};
-ghost use Rattle.util.specs.Entry.{Window, Past, taken_from};
+ghost use Rattle.util.specs.Entry.{Past, taken_from};
 
-use meaning::{Checked, Fault, Length, Place, Reached};
+use meaning::{Fault, Length, Place, Refusal};
 
 // How many bytes lead to the next multiple. No division by a variable: `align` is one of four.
 pub fn gap(align: usize, off: usize) -> usize
@@ -34,75 +34,54 @@ fn zeros(buf: &[u8], from: usize, count: usize) -> bool
     requires { from + count ≤ length buf.now }
     ensures { result ≡ zeros_of (take count (drop from buf.now)) }
 {
-    let mut i = 0;
-    while i < count {
-        if buf[from + i] != 0 {
-            return false;
-        }
-        i += 1;
-    }
-    true
+    buf[from..from + count].iter().all(|byte| *byte == 0)
 }
 
-// The place after the padding, of a reader that sees nothing from `end` on.
-pub fn padded(buf: &[u8], end: usize, off: usize, align: usize) -> Reached
-    requires window { Window buf.now end off }
+// The place after the padding.
+pub fn padded(buf: &[u8], off: usize, align: usize) -> Result<Place, Refusal>
+    requires inside { off ≤ length buf.now }
     requires alignment { T (is_alignment align) }
-    ensures { result ≡ reached_of (padding align (take end buf.now) off) }
+    ensures { result ≡ reached_of (padding align buf.now off) }
 {
     let count = gap(align, off);
     if count == 0 {
-        return Reached::At(Place(off));
+        return Ok(Place(off));
     }
-    if end - off < count {
-        return Reached::Refused(meaning::refuse(Fault::NotEnoughBytes, off));
+    if buf.len() - off < count {
+        return Err(meaning::refuse(Fault::NotEnoughBytes, off));
     }
     if zeros(buf, off, count) {
-        Reached::At(Place(off + count))
+        Ok(Place(off + count))
     } else {
-        Reached::Refused(meaning::refuse(Fault::PaddingContainedData, off))
+        Err(meaning::refuse(Fault::PaddingContainedData, off))
     }
 }
 
 // The length of what an entry point's reader took, which started at `off`.
-pub fn taken_from(off: usize, reached: Reached) -> Checked
+pub fn taken_from(off: usize, reached: Result<Place, Refusal>) -> Result<Length, Refusal>
     requires { Past off reached }
     ensures { result ≡ taken_from off reached }
 {
-    match reached {
-        Reached::At(place) => {
-            let next = place.0;
-            Checked::Accepted(Length(next - off))
-        }
-        Reached::Refused(refusal) => Checked::Refused(refusal),
-    }
+    let place = reached?;
+    Ok(Length(place.0 - off))
 }
 
 pub fn is_alignment(align: usize) -> bool
     ensures { result ≡ is_alignment align }
 {
-    if align == 1 {
-        true
-    } else if align == 2 {
-        true
-    } else if align == 4 {
-        true
-    } else {
-        align == 8
-    }
+    matches!(align, 1 | 2 | 4 | 8)
 }
 
 // How long the padding at `offset` is.
-pub fn align_offset(align: usize, offset: Place, buf: &[u8]) -> Checked
+pub fn align_offset(align: usize, offset: Place, buf: &[u8]) -> Result<Length, Refusal>
     ensures { result ≡ check_padding align buf.now offset.0 }
 {
     let off = offset.0;
     if buf.len() < off {
-        return Checked::Refused(meaning::refuse(Fault::BadOffset, off));
+        return Err(meaning::refuse(Fault::BadOffset, off));
     }
-    if is_alignment(align) {
-        taken_from(off, padded(buf, buf.len(), off, align))
-    } else {
-        Checked::Refused(meaning::refuse(Fault::BadAlignment, off))
+    if !is_alignment(align) {
+        return Err(meaning::refuse(Fault::BadAlignment, off));
     }
+    taken_from(off, padded(buf, off, align))
 }

@@ -9,12 +9,9 @@ ghost use Rattle.validate_raw.specs.FirstBytes.{whole_code, composite, element_p
 pub fn whole(k: u8) -> usize
     ensures { result ≡ whole_code k }
 {
-    if k == b'b' {
-        0
-    } else if k == b'i' {
-        0
-    } else {
-        types::size(k)
+    match k {
+        b'b' | b'i' => 0,
+        _ => types::size(k),
     }
 }
 
@@ -22,15 +19,7 @@ pub fn whole(k: u8) -> usize
 pub fn is_composite(k: u8) -> bool
     ensures { result ≡ composite k }
 {
-    if k == b'a' {
-        true
-    } else if k == b'(' {
-        true
-    } else if k == b'{' {
-        true
-    } else {
-        k == b'v'
-    }
+    matches!(k, b'a' | b'(' | b'{' | b'v')
 }
 
 // Where the element of the array at `at` stands in the signature. A dict alone begins with its entry.
@@ -45,9 +34,8 @@ pub fn element_place(sig: &[u8], at: usize) -> usize
 pub fn element_align(k: u8) -> usize
     ensures { result ≡ element_align k }
 {
-    if k == b'{' {
-        types::align(b'(')
-    } else {
-        types::align(k)
+    match k {
+        b'{' => types::align(b'('),
+        _ => types::align(k),
     }
 }

@@ -1,17 +1,15 @@
 // The walk over a value of any type (validate_raw.rs): document 01, port order 4.
-ghost use Rattle.std.specs.Prelude.{◌≡◌, List, ℕ, ◌+◌, ◌-◌, ◌≤◌, ◌<◌, take, get_or};
+ghost use Rattle.std.specs.Prelude.{◌≡◌, List, ℕ, ◌+◌, ◌-◌, ◌≤◌, ◌<◌, length, get_or};
 ghost use Rattle.meaning.specs.Types.{Ty};
 ghost use Rattle.meaning.specs.Places.{TypeAt, Typed, FieldsAt};
 ghost use Rattle.meaning.specs.Reader.{many, reached_of};
 ghost use Rattle.meaning.specs.ReadValue.{read, read_var};
-ghost use Rattle.util.specs.Entry.{Window};
 ghost use Rattle.validate_raw.specs.Items.{item_of};
 ghost use Rattle.validate_raw.specs.Walk.{walked_of, walked_to, item_r, fields_to, FieldsTyped, HoldsItems};
 
 use crate::{array_head, first_bytes};
 use basic::spelled;
-use basic::spelled::Opened;
-use meaning::{Fault, Order, Place, Reached, Refusal};
+use meaning::{Fault, Length, Order, Part, Place, Refusal};
 
 // Where a walk stands: a place in the signature beside a place in the bytes.
 #[derive(Clone, Copy)]
@@ -26,327 +24,212 @@ pub struct Left {
     pub levels: usize,
 }
 
-// Where a value that was walked over ends: past its type in the signature, and past its bytes.
-#[derive(Clone, Copy)]
-pub enum Walked {
-    Past(Spot),
-    Refused(Refusal),
-}
-
 // A value of the type at `at`: the first code of the type says who checks it.
 #[cycle(walk)]
-pub fn value(order: Order, sig: &[u8], buf: &[u8], end: usize, at: Spot, left: Left) -> Walked
+pub fn value(order: Order, sig: &[u8], buf: &[u8], at: Spot, left: Left) -> Result<Spot, Refusal>
     requires typed { Typed sig.now at.sig.0 }
-    requires window { Window buf.now end at.buf.0 }
+    requires inside { at.buf.0 ≤ length buf.now }
     ensures { (t : Ty) (e : ℕ) → TypeAt t sig.now at.sig.0 e →
-        result ≡ walked_of e (read order (read_var order left.levels) t (take end buf.now) at.buf.0) }
+        result ≡ walked_of e (read order (read_var order left.levels) t buf.now at.buf.0) }
 {
-    let i = at.sig.0;
-    let o = at.buf.0;
+    let Place(i) = at.sig;
+    let Place(off) = at.buf;
     let k = sig[i];
     if k == b'(' {
-        structure(order, sig, buf, end, at, left)
+        structure(order, sig, buf, at, left)
     } else if k == b'v' {
-        match variant(order, buf, end, o, left) {
-            Reached::At(place) => Walked::Past(Spot {
-                sig: Place(i + 1),
-                buf: place,
-            }),
-            Reached::Refused(refusal) => Walked::Refused(refusal),
-        }
+        let past = variant(order, buf, off, left)?;
+        Ok(Spot {
+            sig: Place(i + 1),
+            buf: past,
+        })
     } else if first_bytes::is_composite(k) {
-        array(order, sig, buf, end, at, left)
+        array(order, sig, buf, at, left)
     } else {
-        match basic::base(order, k, buf, end, o) {
-            Reached::At(place) => Walked::Past(Spot {
-                sig: Place(i + 1),
-                buf: place,
-            }),
-            Reached::Refused(refusal) => Walked::Refused(refusal),
-        }
+        let past = basic::base(order, k, buf, off)?;
+        Ok(Spot {
+            sig: Place(i + 1),
+            buf: past,
+        })
     }
 }
 
 // A struct, whose opening bracket stands at `at`: padding, and its fields.
 #[cycle(walk)]
-fn structure(order: Order, sig: &[u8], buf: &[u8], end: usize, at: Spot, left: Left) -> Walked
+fn structure(order: Order, sig: &[u8], buf: &[u8], at: Spot, left: Left) -> Result<Spot, Refusal>
     requires typed { Typed sig.now at.sig.0 }
     requires bracket { get_or sig.now at.sig.0 0 ≡ 40 }
-    requires window { Window buf.now end at.buf.0 }
+    requires inside { at.buf.0 ≤ length buf.now }
     ensures { (t : Ty) (e : ℕ) → TypeAt t sig.now at.sig.0 e →
-        result ≡ walked_of e (read order (read_var order left.levels) t (take end buf.now) at.buf.0) }
+        result ≡ walked_of e (read order (read_var order left.levels) t buf.now at.buf.0) }
 {
-    let i = at.sig.0;
-    let off = at.buf.0;
-    match util::padded(buf, end, off, types::align(b'(')) {
-        Reached::At(place) => fields(
-            order,
-            sig,
-            buf,
-            end,
-            Spot {
-                sig: Place(i + 1),
-                buf: place,
-            },
-            left,
-        ),
-        Reached::Refused(refusal) => Walked::Refused(refusal),
-    }
+    let inside = Spot {
+        sig: Place(at.sig.0 + 1),
+        buf: util::padded(buf, at.buf.0, types::align(b'('))?,
+    };
+    fields(order, sig, buf, inside, left)
 }
 
 // The fields of a struct from `at` on, up to its closing bracket. Basic values are checked here, for speed.
 #[cycle(walk)]
-fn fields(order: Order, sig: &[u8], buf: &[u8], end: usize, at: Spot, left: Left) -> Walked
+fn fields(order: Order, sig: &[u8], buf: &[u8], at: Spot, left: Left) -> Result<Spot, Refusal>
     requires fields_typed { FieldsTyped sig.now at.sig.0 }
-    requires window { Window buf.now end at.buf.0 }
+    requires inside { at.buf.0 ≤ length buf.now }
     ensures { (ts : List Ty) (e : ℕ) → FieldsAt ts sig.now at.sig.0 e →
-        result ≡ walked_to e (fields_to order (read_var order left.levels) ts (take end buf.now) at.buf.0) }
+        result ≡ walked_to e (fields_to order (read_var order left.levels) ts buf.now at.buf.0) }
 {
-    let mut i = at.sig.0;
-    let mut o = at.buf.0;
+    let mut here = at;
     loop {
+        let i = here.sig.0;
         let k = sig[i];
         if k == b')' {
-            return Walked::Past(Spot {
+            return Ok(Spot {
                 sig: Place(i + 1),
-                buf: Place(o),
+                buf: here.buf,
             });
-        } else if first_bytes::is_composite(k) {
-            match value(
-                order,
-                sig,
-                buf,
-                end,
-                Spot {
-                    sig: Place(i),
-                    buf: Place(o),
-                },
-                left,
-            ) {
-                Walked::Past(past) => {
-                    i = past.sig.0;
-                    o = past.buf.0;
-                }
-                Walked::Refused(refusal) => {
-                    return Walked::Refused(refusal);
-                }
-            }
+        }
+        if first_bytes::is_composite(k) {
+            here = value(order, sig, buf, here, left)?;
         } else {
-            match basic::base(order, k, buf, end, o) {
-                Reached::At(place) => {
-                    i += 1;
-                    o = place.0;
-                }
-                Reached::Refused(refusal) => {
-                    return Walked::Refused(refusal);
-                }
-            }
+            here.buf = basic::base(order, k, buf, here.buf.0)?;
+            here.sig = Place(i + 1);
         }
     }
 }
 
 // An array or a dict, whose type stands at `at`. A dict alone is walked over as one in an array is.
 #[cycle(walk)]
-fn array(order: Order, sig: &[u8], buf: &[u8], end: usize, at: Spot, left: Left) -> Walked
+fn array(order: Order, sig: &[u8], buf: &[u8], at: Spot, left: Left) -> Result<Spot, Refusal>
     requires holds_items { HoldsItems sig.now at.sig.0 }
-    requires window { Window buf.now end at.buf.0 }
+    requires inside { at.buf.0 ≤ length buf.now }
     ensures { (t : Ty) (e : ℕ) → TypeAt t sig.now at.sig.0 e →
-        result ≡ walked_of e (read order (read_var order left.levels) t (take end buf.now) at.buf.0) }
+        result ≡ walked_of e (read order (read_var order left.levels) t buf.now at.buf.0) }
 {
     let i = first_bytes::element_place(sig, at.sig.0);
-    let off = at.buf.0;
     let k = sig[i];
-    match array_head::opening(order, buf, end, off, first_bytes::element_align(k)) {
-        Opened::Inside(place, length) => {
-            let first = place.0;
-            let long = length.0;
-            let stop = first + long;
-            let size = first_bytes::whole(k);
-            if size == 0 {
-                elements(
-                    order,
-                    sig,
-                    buf,
-                    stop,
-                    Spot {
-                        sig: Place(i),
-                        buf: Place(first),
-                    },
-                    left,
-                )
-            } else if long % size == 0 {
-                Walked::Past(Spot {
-                    sig: Place(i + 1),
-                    buf: Place(stop),
-                })
-            } else {
-                Walked::Refused(meaning::refuse(Fault::NotEnoughBytes, first))
-            }
-        }
-        Opened::Shut(refusal) => Walked::Refused(refusal),
+    let align = first_bytes::element_align(k);
+    let Part(first, Length(long)) = array_head::opening(order, buf, at.buf.0, align)?;
+    let stop = first.0 + long;
+    let size = first_bytes::whole(k);
+    if size == 0 {
+        let inside = Spot {
+            sig: Place(i),
+            buf: first,
+        };
+        elements(order, sig, &buf[..stop], inside, left)
+    } else if long % size == 0 {
+        Ok(Spot {
+            sig: Place(i + 1),
+            buf: Place(stop),
+        })
+    } else {
+        Err(meaning::refuse(Fault::NotEnoughBytes, first.0))
     }
 }
 
-// Elements or entries of the type at `at`, which fill the bytes up to `stop`.
+// Elements or entries of the type at `at`, which fill the bytes to the end.
 #[cycle(walk)]
-fn elements(order: Order, sig: &[u8], buf: &[u8], stop: usize, at: Spot, left: Left) -> Walked
+fn elements(order: Order, sig: &[u8], buf: &[u8], at: Spot, left: Left) -> Result<Spot, Refusal>
     requires typed { Typed sig.now at.sig.0 }
-    requires window { Window buf.now stop at.buf.0 }
+    requires inside { at.buf.0 ≤ length buf.now }
     ensures { (t : Ty) (e : ℕ) → TypeAt t sig.now at.sig.0 e →
-        result ≡ walked_of e (many (stop - at.buf.0) (item_r order (read_var order left.levels) (item_of t)) (take stop buf.now) at.buf.0) }
+        result ≡ walked_of e (many (length buf.now - at.buf.0) (item_r order (read_var order left.levels) (item_of t)) buf.now at.buf.0) }
 {
-    let i = at.sig.0;
+    let Place(i) = at.sig;
     let k = sig[i];
     if first_bytes::is_composite(k) {
-        composites(order, sig, buf, stop, at, left)
+        composites(order, sig, buf, at, left)
     } else {
-        let first = at.buf.0;
-        match basic::basics(order, k, buf, stop, first) {
-            Reached::At(place) => Walked::Past(Spot {
-                sig: Place(i + 1),
-                buf: place,
-            }),
-            Reached::Refused(refusal) => Walked::Refused(refusal),
-        }
+        let past = basic::basics(order, k, buf, at.buf.0)?;
+        Ok(Spot {
+            sig: Place(i + 1),
+            buf: past,
+        })
     }
 }
 
 // The same where they are no basic values: one loop for elements and entries. Where there is none, none says where its type ends.
 #[cycle(walk)]
-fn composites(order: Order, sig: &[u8], buf: &[u8], stop: usize, at: Spot, left: Left) -> Walked
+fn composites(order: Order, sig: &[u8], buf: &[u8], at: Spot, left: Left) -> Result<Spot, Refusal>
     requires typed { Typed sig.now at.sig.0 }
-    requires window { Window buf.now stop at.buf.0 }
+    requires inside { at.buf.0 ≤ length buf.now }
     ensures { (t : Ty) (e : ℕ) → TypeAt t sig.now at.sig.0 e →
-        result ≡ walked_of e (many (stop - at.buf.0) (item_r order (read_var order left.levels) (item_of t)) (take stop buf.now) at.buf.0) }
+        result ≡ walked_of e (many (length buf.now - at.buf.0) (item_r order (read_var order left.levels) (item_of t)) buf.now at.buf.0) }
 {
-    let i = at.sig.0;
-    let first = at.buf.0;
-    if first == stop {
-        return Walked::Past(Spot {
+    let Place(i) = at.sig;
+    let Place(first) = at.buf;
+    if first == buf.len() {
+        return Ok(Spot {
             sig: Place(signature::skip(sig, i)),
-            buf: Place(stop),
+            buf: at.buf,
         });
     }
-    let mut done = first;
-    let mut next = i;
-    while done < stop {
-        match element(
-            order,
-            sig,
-            buf,
-            stop,
-            Spot {
-                sig: Place(i),
-                buf: Place(done),
-            },
-            left,
-        ) {
-            Walked::Past(past) => {
-                next = past.sig.0;
-                done = past.buf.0;
-            }
-            Walked::Refused(refusal) => {
-                return Walked::Refused(refusal);
-            }
-        }
+    let mut past = at;
+    while past.buf.0 < buf.len() {
+        let next = Spot {
+            sig: Place(i),
+            buf: past.buf,
+        };
+        past = element(order, sig, buf, next, left)?;
     }
-    Walked::Past(Spot {
-        sig: Place(next),
-        buf: Place(done),
-    })
+    Ok(past)
 }
 
 // One element of an array, or one entry of a dict: no array has dicts alone for elements.
 #[cycle(walk)]
-fn element(order: Order, sig: &[u8], buf: &[u8], end: usize, at: Spot, left: Left) -> Walked
+fn element(order: Order, sig: &[u8], buf: &[u8], at: Spot, left: Left) -> Result<Spot, Refusal>
     requires typed { Typed sig.now at.sig.0 }
-    requires window { Window buf.now end at.buf.0 }
+    requires inside { at.buf.0 ≤ length buf.now }
     ensures { (t : Ty) (e : ℕ) → TypeAt t sig.now at.sig.0 e →
-        result ≡ walked_of e (item_r order (read_var order left.levels) (item_of t) (take end buf.now) at.buf.0) }
+        result ≡ walked_of e (item_r order (read_var order left.levels) (item_of t) buf.now at.buf.0) }
 {
     let i = at.sig.0;
     if sig[i] == b'{' {
-        entry(order, sig, buf, end, at, left)
+        entry(order, sig, buf, at, left)
     } else {
-        value(order, sig, buf, end, at, left)
+        value(order, sig, buf, at, left)
     }
 }
 
 // One entry of a dict, whose opening bracket stands at `at`: padding, a key, and a value. Its type ends past the closing bracket.
 #[cycle(walk)]
-fn entry(order: Order, sig: &[u8], buf: &[u8], end: usize, at: Spot, left: Left) -> Walked
+fn entry(order: Order, sig: &[u8], buf: &[u8], at: Spot, left: Left) -> Result<Spot, Refusal>
     requires typed { Typed sig.now at.sig.0 }
     requires bracket { get_or sig.now at.sig.0 0 ≡ 123 }
-    requires window { Window buf.now end at.buf.0 }
+    requires inside { at.buf.0 ≤ length buf.now }
     ensures { (t : Ty) (e : ℕ) → TypeAt t sig.now at.sig.0 e →
-        result ≡ walked_of e (item_r order (read_var order left.levels) (item_of t) (take end buf.now) at.buf.0) }
+        result ≡ walked_of e (item_r order (read_var order left.levels) (item_of t) buf.now at.buf.0) }
 {
     let key = at.sig.0 + 1;
-    let from = at.buf.0;
-    match util::padded(buf, end, from, types::align(b'(')) {
-        Reached::At(start) => match basic::base(order, sig[key], buf, end, start.0) {
-            Reached::At(place) => {
-                match value(
-                    order,
-                    sig,
-                    buf,
-                    end,
-                    Spot {
-                        sig: Place(key + 1),
-                        buf: place,
-                    },
-                    left,
-                ) {
-                    Walked::Past(past) => {
-                        let bracket = past.sig.0;
-                        let next = past.buf.0;
-                        Walked::Past(Spot {
-                            sig: Place(bracket + 1),
-                            buf: Place(next),
-                        })
-                    }
-                    Walked::Refused(refusal) => Walked::Refused(refusal),
-                }
-            }
-            Reached::Refused(refusal) => Walked::Refused(refusal),
-        },
-        Reached::Refused(refusal) => Walked::Refused(refusal),
-    }
+    let start = util::padded(buf, at.buf.0, types::align(b'('))?;
+    let held = Spot {
+        sig: Place(key + 1),
+        buf: basic::base(order, sig[key], buf, start.0)?,
+    };
+    let past = value(order, sig, buf, held, left)?;
+    Ok(Spot {
+        sig: Place(past.sig.0 + 1),
+        buf: past.buf,
+    })
 }
 
 // A variant: its signature, and then a value of that type, for which one level less is left.
 #[cycle(walk)]
-fn variant(order: Order, buf: &[u8], end: usize, off: usize, left: Left) -> Reached
-    requires { Window buf.now end off }
-    ensures { result ≡ reached_of (read_var order left.levels (take end buf.now) off) }
+fn variant(order: Order, buf: &[u8], off: usize, left: Left) -> Result<Place, Refusal>
+    requires { off ≤ length buf.now }
+    ensures { result ≡ reached_of (read_var order left.levels buf.now off) }
 {
     let levels = left.levels;
     if levels == 0 {
-        return Reached::Refused(meaning::refuse(Fault::VariantTooDeep, off));
+        return Err(meaning::refuse(Fault::VariantTooDeep, off));
     }
-    match spelled::inner(buf, end, off) {
-        Opened::Inside(place, length) => {
-            let first = place.0;
-            let stop = first + length.0;
-            let inside = Spot {
-                sig: Place(0),
-                buf: Place(stop + 1),
-            };
-            match value(
-                order,
-                &buf[first..stop],
-                buf,
-                end,
-                inside,
-                Left { levels: levels - 1 },
-            ) {
-                Walked::Past(past) => {
-                    let next = past.buf.0;
-                    Reached::At(Place(next))
-                }
-                Walked::Refused(refusal) => Reached::Refused(refusal),
-            }
-        }
-        Opened::Shut(refusal) => Reached::Refused(refusal),
-    }
+    let Part(Place(first), Length(long)) = spelled::inner(buf, off)?;
+    let stop = first + long;
+    let inside = Spot {
+        sig: Place(0),
+        buf: Place(stop + 1),
+    };
+    let left = Left { levels: levels - 1 };
+    let past = value(order, &buf[first..stop], buf, inside, left)?;
+    Ok(past.buf)
 }

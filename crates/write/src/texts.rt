@@ -5,11 +5,17 @@ ghost use Rattle.meaning.specs.Writers.{put_at, write_at, string_bytes, signatur
 ghost use Rattle.write.specs.Ready.{Ready};
 
 use crate::store;
-use meaning::{Counted, Fault, Order, Place, Written};
-use text::Text;
+use meaning::{Fault, Order, Place, Refusal};
+use text::BadText;
 
 // A text that may be written, if there is room: its length in `width` bytes, its bytes, a zero.
-fn put_sized(order: Order, width: usize, val: &[u8], buf: &mut [u8], at: usize) -> Written
+fn put_sized(
+    order: Order,
+    width: usize,
+    val: &[u8],
+    buf: &mut [u8],
+    at: usize,
+) -> Result<Place, Refusal>
     requires { Ready width val.now buf.old at }
     ensures value { result ≡ (put_at buf.old at (sized order width val.now)).answer }
     ensures buf_after { buf.new ≡ (put_at buf.old at (sized order width val.now)).after }
@@ -17,45 +23,50 @@ fn put_sized(order: Order, width: usize, val: &[u8], buf: &mut [u8], at: usize) 
     let len = val.len();
     let first = width + len;
     if buf.len() - at <= first {
-        return Written::Refused(meaning::refuse(Fault::NoRoom, at));
+        return Err(meaning::refuse(Fault::NoRoom, at));
     }
     store::store(order, width, buf, at, len as u64);
     store::copy(buf, at + width, val);
     let stop = at + first;
     buf[stop] = 0;
-    Written::Done(Place(stop + 1))
+    Ok(Place(stop + 1))
 }
 
 // Its length is looked at before its bytes, and its bytes before the room that it needs.
-pub fn write_string(val: &[u8], order: Order, buf: &mut [u8], place: Place) -> Written
+pub fn write_string(
+    val: &[u8],
+    order: Order,
+    buf: &mut [u8],
+    place: Place,
+) -> Result<Place, Refusal>
     ensures value { result ≡ (write_at (string_bytes order val.now) buf.old place.0).answer }
     ensures buf_after { buf.new ≡ (write_at (string_bytes order val.now) buf.old place.0).after }
 {
     let at = place.0;
     if buf.len() < at {
-        return Written::Refused(meaning::refuse(Fault::BadOffset, at));
+        return Err(meaning::refuse(Fault::BadOffset, at));
     }
     if 0xffff_ffff < val.len() {
-        return Written::Refused(meaning::refuse(Fault::TextTooLong, at));
+        return Err(meaning::refuse(Fault::TextTooLong, at));
     }
     match text::check_text(val) {
-        Text::Fine => put_sized(order, 4, val, buf, at),
-        Text::NotUtf8 => Written::Refused(meaning::refuse(Fault::InvalidUtf8, at)),
-        Text::HasZero => Written::Refused(meaning::refuse(Fault::StringContainsNullByte, at)),
+        Ok(()) => put_sized(order, 4, val, buf, at),
+        Err(BadText::NotUtf8) => Err(meaning::refuse(Fault::InvalidUtf8, at)),
+        Err(BadText::HasZero) => Err(meaning::refuse(Fault::StringContainsNullByte, at)),
     }
 }
 
 // A signature's length is one byte, the same in either order.
-pub fn write_signature(val: &[u8], buf: &mut [u8], place: Place) -> Written
+pub fn write_signature(val: &[u8], buf: &mut [u8], place: Place) -> Result<Place, Refusal>
     ensures value { (o : Order) → result ≡ (write_at (signature_bytes o val.now) buf.old place.0).answer }
     ensures buf_after { (o : Order) → buf.new ≡ (write_at (signature_bytes o val.now) buf.old place.0).after }
 {
     let at = place.0;
     if buf.len() < at {
-        return Written::Refused(meaning::refuse(Fault::BadOffset, at));
+        return Err(meaning::refuse(Fault::BadOffset, at));
     }
-    match signature::parse_description(val) {
-        Counted::Types(_) => put_sized(Order::Little, 1, val, buf, at),
-        Counted::Refused(refusal) => Written::Refused(meaning::moved(refusal, at)),
+    if let Err(refusal) = signature::parse_description(val) {
+        return Err(meaning::moved(refusal, at));
     }
+    put_sized(Order::Little, 1, val, buf, at)
 }

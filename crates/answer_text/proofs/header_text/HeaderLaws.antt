@@ -1,22 +1,25 @@
--- One turn of a loop that puts the texts of each element, and where it ends.
-use Prim.Native.Nat.{ℕ, suc, ◌+◌, ◌≤◌, ◌<◌}
-use native.Mathlib.Numerals.{add-one}
-use mathlib.Core.Path.{◌≡◌, ap, sym, ◌∙◌}
-use mathlib.Core.List.{List}
-use lib.ListN.{length, drop, get_or, drop_of_length-le}
-use lib.Seq.{drop-cons}
-use Rattle.text_out.specs.Puts.{Put, put_all, Puts}
-use Rattle.text_out.proofs.PutLaws.{rest}
+-- One turn of a loop that puts the texts of each element.
+use Rattle.std.proofs.Common.{◌≡◌, refl, ℕ, ◌+◌, ◌<◌, List, [], ◌∷◌, ◌++◌, length, take, get_or}
+use Rattle.std.proofs.lemmas.List.{append_assoc, append-nil, take_more}
+use Rattle.text_out.specs.Puts.{put_all, Puts}
+use Rattle.text_out.proofs.PutLaws.{then}
 use Rattle.answer_text.specs.Headers.{each_texts}
 
-module _ {A : Type 0} (texts : A → List (List ℕ)) (xs : List A) where
-  pub turn : {out b : List ℕ} {at p : ℕ} (i : ℕ) (d : A) (e : Put) → i < length xs → Puts out at (texts (get_or xs i d)) p b
-      → put_all out at (each_texts texts (drop i xs)) ≡ e → put_all b p (each_texts texts (drop (i + 1) xs)) ≡ e
-  unfolding each_texts
-  turn i d e h g q = rw add-one (sym (rest (each_texts texts (drop (suc i) xs)) g) ∙ (rw (drop-cons xs i d h) at q))
+-- before the first
+pub nothing : {out : List ℕ} {at : ℕ} → Puts out at [] at out
+unfolding put_all
+nothing = record { place = refl; after = refl }
 
-  pub end : {out out₀ : List ℕ} {at at₀ : ℕ} (i : ℕ) → length xs ≤ i → put_all out at (each_texts texts (drop i xs)) ≡ put_all out₀ at₀ (each_texts texts xs)
-      → Puts out₀ at₀ (each_texts texts xs) at out
-  unfolding each_texts put_all
-  end i h q =
-      let e = rw (drop_of_length-le xs {i = i} h) at q in record { place = ap (λ (r : Put). r.place) e; after = ap (λ (r : Put). r.after) e }
+module _ {A : Type 0} (texts : A → List (List ℕ)) where
+  append : (xs ys : List A) → each_texts texts (xs ++ ys) ≡ each_texts texts xs ++ each_texts texts ys
+  unfolding each_texts
+  append [] ys = refl
+  append (x ∷ xs) ys = rw (append xs ys, append_assoc)
+
+  pub turn : {a b c : List ℕ} {at p q : ℕ} (xs : List A) (i : ℕ) (d : A) → i < length xs → Puts a at (each_texts texts (take i xs)) p b
+      → Puts b p (texts (get_or xs i d)) q c → Puts a at (each_texts texts (take (i + 1) xs)) q c
+  unfolding each_texts
+  turn xs i d h g k =
+      let more : each_texts texts (take (i + 1) xs) ≡ each_texts texts (take i xs) ++ texts (get_or xs i d) =
+      rw (take_more xs i d h, append, append-nil) in
+      rw more (then g k)

@@ -12,4 +12,4 @@ returns c =
     let no = c.labelled-behind in
     let place : no.result ≡ (put_all a.out.now a.at ((110 ∷ 111 ∷ 32 ∷ []) ∷ decimal a.r.place.0 ∷ [])).place = no.ensures.place in
     then (record { place = place; after = no.ensures.after })
-    (rw c.number.ensures at c.labelled.ensures)
+    (rw (c.from.ensures, c.number.ensures) at c.labelled.ensures)

@@ -30,16 +30,16 @@ returns-in-120 c = λ b e.
     ⊎_elim (is dbl (λ x. tt) n) (⊎_elim (is u64 (λ x. tt) n) (is i64 (λ x. tt) n)) c.in-120.is
 
 pub number-requires : goal.number-requires
-number-requires c = record { window = c.requires.window; alignment = size-aligns byte _ c.size.ensures }
+number-requires c = record { inside = c.requires.inside; alignment = size-aligns byte _ c.size.ensures }
 
 pub number-requires-in-110 : goal.number-requires-in-110
-number-requires-in-110 c = record { window = c.requires.window; alignment = size-aligns u16 _ c.size-in-110.ensures }
+number-requires-in-110 c = record { inside = c.requires.inside; alignment = size-aligns u16 _ c.size-in-110.ensures }
 
 pub number-requires-in-105 : goal.number-requires-in-105
-number-requires-in-105 c = record { window = c.requires.window; alignment = size-aligns u32 _ c.size-in-105.ensures }
+number-requires-in-105 c = record { inside = c.requires.inside; alignment = size-aligns u32 _ c.size-in-105.ensures }
 
 pub number-requires-in-104 : goal.number-requires-in-104
-number-requires-in-104 c = record { window = c.requires.window; alignment = size-aligns fd _ c.size-in-104.ensures }
+number-requires-in-104 c = record { inside = c.requires.inside; alignment = size-aligns fd _ c.size-in-104.ensures }
 
 pub number-requires-in-120 : goal.number-requires-in-120
-number-requires-in-120 c = record { window = c.requires.window; alignment = size-aligns u64 _ c.size-in-120.ensures }
+number-requires-in-120 c = record { inside = c.requires.inside; alignment = size-aligns u64 _ c.size-in-120.ensures }

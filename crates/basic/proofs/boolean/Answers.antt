@@ -1,30 +1,22 @@
 -- The length is tested, and then whether the number is 0 or 1.
-use mathlib.Core.Path.{sym, ◌∙◌, ap}
 use native.Mathlib.Omega.{arith}
-use lib.Seq.{length-take-le}
 use mathlib.Core.Path.{refl, subst}
 use Prim.Native.Nat.{ℕ, ◌<◌, ◌≤◌}
 use lib.Dec.{lt→ltb}
 use borrow.Author.Tests.{le-ltb}
-use Rattle.meaning.specs.Number.{load}
 use Rattle.meaning.specs.Types.{bool}
-use Rattle.util.proofs.Windows.{seen}
 use Rattle.basic.proofs.BaseLaws.{number_short, number_read, number-wrong}
 use Rattle.basic.proofs.boolean.Goals as goal
 
-pub returns-then-end-off-lt4 : goal.returns-then-end-off-lt4
-returns-then-end-off-lt4 c = number_short _ bool _ _ _ (length-take-le _ _ c.requires.held) 4 _ refl (omega arith) c.refuse.ensures
+pub returns-then-buf-off-lt4 : goal.returns-then-buf-off-lt4
+returns-then-buf-off-lt4 c = number_short _ bool _ _ 4 _ refl (omega arith) c.refuse.ensures
 
 pub returns-then-load32-lt2 : goal.returns-then-load32-lt2
 returns-then-load32-lt2 c =
-    let start = c in
-    let e = ap (load start.args.order) (seen start.args.buf.now start.args.end start.args.off 4 (omega arith) start.requires.held) in
-    number_read _ bool _ _ _ (length-take-le _ _ start.requires.held) 4 refl (omega arith)
-    (lt→ltb _ 2 (subst (λ (n : ℕ). n < 2) (c.load32.ensures.is ∙ sym e) c.if-load32-lt2.true))
+    number_read _ bool _ _ 4 refl (omega arith)
+    (lt→ltb _ 2 (subst (λ (n : ℕ). n < 2) c.load32.ensures.is c.if-load32-lt2.true))
 
 pub returns-else-load32-lt2 : goal.returns-else-load32-lt2
 returns-else-load32-lt2 c =
-    let start = c in
-    let e = ap (load start.args.order) (seen start.args.buf.now start.args.end start.args.off 4 (omega arith) start.requires.held) in
-    number-wrong _ bool _ _ _ (length-take-le _ _ start.requires.held) 4 refl (omega arith) _
-    (le-ltb _ 2 (subst (λ (n : ℕ). 2 ≤ n) (c.load32.ensures.is ∙ sym e) c.if-load32-lt2.false)) c.refuse-else-load32-lt2.ensures
+    number-wrong _ bool _ _ 4 refl (omega arith) _
+    (le-ltb _ 2 (subst (λ (n : ℕ). 2 ≤ n) c.load32.ensures.is c.if-load32-lt2.false)) c.refuse-else-load32-lt2.ensures

@@ -1,15 +1,16 @@
 -- The padding to its size, and then its bytes.
+use mathlib.Core.Path.{◌∙◌}
+use Rattle.meaning.proofs.Passing.{handed-on}
 use Rattle.util.proofs.Pads.{padded-within}
 use Rattle.basic.proofs.BaseLaws.{number-stop, number_at}
 use Rattle.basic.proofs.number.Goals as goal
 
 pub fixed-requires : goal.fixed-requires
-fixed-requires c =
-    let r = padded-within _ _ _ _ _ _ c.requires.window c.padded.ensures c.in-At.is in
-    record { inside = r.1; held = c.requires.window.held }
+fixed-requires c = (padded-within _ _ _ _ _ c.requires.inside c.padded.ensures c.in_ok-at.was).1
 
-pub returns-in-At : goal.returns-in-At
-returns-in-At c = λ o k a z. number_at o k _ _ _ z _ _ _ c.padded.ensures c.in-At.is (c.fixed.ensures o k a z)
+pub returns : goal.returns
+returns c = λ o k a z. number_at o k _ _ _ z _ _ _ c.padded.ensures c.in_ok-at.was (c.fixed.ensures o k a z)
 
-pub returns-in-Refused : goal.returns-in-Refused
-returns-in-Refused c = λ o k a z. number-stop o k _ _ _ z _ _ c.padded.ensures c.in-Refused.is
+pub returns-in_err-at : goal.returns-in_err-at
+returns-in_err-at c = λ o k a z.
+    handed-on _ _ c.from_residual.ensures ∙ number-stop o k _ _ _ z _ _ c.padded.ensures c.in_err-at.was

@@ -2,7 +2,7 @@
 use Prim.Native.Nat.{ℕ, zero, suc, ◌≤◌, ◌<◌}
 use native.Mathlib.Omega.{arith}
 use mathlib.Core.Path.{◌≡◌, refl, ap, sym, subst, ◌∙◌}
-use Rattle.meaning.specs.Types.{Base, fix, u32, str, path, sig}
+use Rattle.meaning.specs.Types.{byte, bool, i16, u16, i32, i64, u64, dbl, fd, Base, fix, u32, str, path, sig}
 use Rattle.meaning.specs.Signature.{code}
 use Rattle.meaning.specs.Message.{nothing, exactly, anything, wants}
 use Rattle.meaning.proofs.Local.{Cmp, is_le, is_gt, cmp}
@@ -13,6 +13,22 @@ pub data Kept : Base → Type 0 where
   string : Kept str
   object : Kept path
   spelling : Kept sig
+
+-- what holds of these four holds of each type that a known field holds
+pub by-kept : (P : Base → Type 0) → P (fix u32) → P str → P path → P sig → (b : Base) → Kept b → P b
+by-kept P n s o g (fix u32) number = n
+by-kept P n s o g str string = s
+by-kept P n s o g path object = o
+by-kept P n s o g sig spelling = g
+by-kept P n s o g (fix byte) r = elim r [ ]
+by-kept P n s o g (fix bool) r = elim r [ ]
+by-kept P n s o g (fix i16) r = elim r [ ]
+by-kept P n s o g (fix u16) r = elim r [ ]
+by-kept P n s o g (fix i32) r = elim r [ ]
+by-kept P n s o g (fix i64) r = elim r [ ]
+by-kept P n s o g (fix u64) r = elim r [ ]
+by-kept P n s o g (fix dbl) r = elim r [ ]
+by-kept P n s o g (fix fd) r = elim r [ ]
 
 -- what a code below ten asks for
 pub data Asks : ℕ → Type 0 where

@@ -11,12 +11,12 @@ use borrow.Author.Tests.{ne_eqb}
 use Rattle.meaning.specs.declared.Order.{Order}
 use Rattle.meaning.specs.declared.Refusal.{Refusal}
 use Rattle.meaning.specs.declared.Place.{Place}
-use Rattle.meaning.specs.declared.Length.{Length}
-use Rattle.meaning.specs.declared.Reached.TheVariants.{At, Refused}
-use Rattle.meaning.specs.declared.Entry.TheVariants.{Absent}
+use Rattle.std.specs.Prelude.{Result, Ok, Err}
+use Rattle.meaning.specs.declared.Part.{Part}
+use Rattle.header.specs.declared.header_field.FieldEntry.{FieldEntry}
 use Rattle.meaning.specs.declared.Fault.TheVariants.{NotEnoughBytes, WrongSignature, InvalidHeaderField}
 use Rattle.meaning.specs.Faults.{refusal}
-use Rattle.meaning.specs.Types.{byte, bool, i16, u16, i32, i64, u64, dbl, fd, Base, fix, u32, str, path, sig, Ty, base, arr, dict, struct, variant, Raw, Var}
+use Rattle.meaning.specs.Types.{Base, Ty, base, arr, dict, struct, variant, Raw, Var}
 use Rattle.meaning.specs.Signature.{code, parse, spell}
 use Rattle.meaning.specs.Places.{TypeAt, Typed}
 use Rattle.meaning.specs.Message.{Wants, nothing, exactly, anything, wants, Field}
@@ -28,39 +28,33 @@ use Rattle.meaning.proofs.Meets.{check-yes}
 use Rattle.meaning.proofs.Loop.{at-inv, refused-inv}
 use Rattle.meaning.proofs.PlaceLaws.{lies, spelled-last, is-base-of}
 use Rattle.validate_raw.specs.declared.walk.Spot.{Spot}
-use Rattle.validate_raw.specs.declared.walk.Walked.{Walked}
-use Rattle.validate_raw.specs.declared.walk.Walked.TheVariants as walked
-use Rattle.basic.specs.declared.spelled.Opened.{Opened}
-use Rattle.basic.specs.declared.spelled.Opened.TheVariants.{Inside, Shut}
 use Rattle.validate_raw.specs.Walk.{walked_of}
 use Rattle.validate_raw.proofs.walk.WalkLaws.{past-inv, stopped-inv}
-use Rattle.header.specs.declared.header_field.FieldRead.{FieldRead}
-use Rattle.header.specs.declared.header_field.FieldRead.TheVariants as field_read
-use Rattle.header.specs.HeaderField.{one_type_r, OneIs, Known, read_as, kept_as, known_to, content_to, field_to}
-use Rattle.header.proofs.header_field.CodeLaws.{Kept, number, string, object, spelling, Asks, asks, known-asks}
+use Rattle.header.specs.HeaderField.{one_type_r, OneIs, Known, passed_by, kept_as, known_to, content_to, field_to}
+use Rattle.header.proofs.header_field.CodeLaws.{Kept, by-kept, Asks, asks, known-asks}
 
 -- what the code learns of a field's signature
-pub record One (o : Order) (buf : List ℕ) (end off f s : ℕ) : Type 0 where
+pub record One (o : Order) (buf : List ℕ) (off f s : ℕ) : Type 0 where
   pub after : off < f
-  pub forward : f ≤ s
-  pub within : s < end
+  pub some : f < s
+  pub within : s < length buf
   pub ty : Ty
-  pub reads : one_type_r o (take end buf) off ≡ got ty (s + 1)
+  pub reads : one_type_r o buf off ≡ got ty (s + 1)
   pub stands : TypeAt ty (take (s - f) (drop f buf)) 0 (s - f)
 
-pub one_inside : (o : Order) (buf : List ℕ) (end off : ℕ) (q : Opened) (f : Place) (n : Length) → q ≡ Inside f n → OneIs q o buf end off
-    → One o buf end off f.0 (f.0 + n.0)
+pub one_inside : (o : Order) (buf : List ℕ) (off : ℕ) (q : Result Part Refusal) (part : Part) → q ≡ Ok part → OneIs q o buf off
+    → One o buf off part.0.0 (part.0.0 + part.1.0)
 unfolding OneIs
-one_inside o buf end off q f n h k =
+one_inside o buf off q part h k =
     let i = rw h at k in
-    let z : n.0 ≡ f.0 + n.0 - f.0 = omega arith in
-    let y : TypeAt i.2.0 (take (f.0 + n.0 - f.0) (drop f.0 buf)) 0 (f.0 + n.0 - f.0) =
-    subst (λ (m : ℕ). TypeAt i.2.0 (take m (drop f.0 buf)) 0 m) z i.2.2 in
-    record { after = i.0; forward = omega arith; within = i.1; ty = i.2.0; reads = i.2.1; stands = y }
+    let z : part.1.0 ≡ part.0.0 + part.1.0 - part.0.0 = omega arith in
+    let y : TypeAt i.2.0 (take (part.0.0 + part.1.0 - part.0.0) (drop part.0.0 buf)) 0 (part.0.0 + part.1.0 - part.0.0) =
+    subst (λ (m : ℕ). TypeAt i.2.0 (take m (drop part.0.0 buf)) 0 m) z i.2.2 in
+    record { after = i.0; some = omega (arith, (lies y).past); within = i.1; ty = i.2.0; reads = i.2.1; stands = y }
 
-pub one-shut : (o : Order) (buf : List ℕ) (end off : ℕ) (q : Opened) (x : Refusal) → q ≡ Shut x → OneIs q o buf end off → one_type_r o (take end buf) off ≡ fault x
+pub one-shut : (o : Order) (buf : List ℕ) (off : ℕ) (q : Result Part Refusal) (x : Refusal) → q ≡ Err x → OneIs q o buf off → one_type_r o buf off ≡ fault x
 unfolding OneIs
-one-shut o buf end off q x h k = rw h at k
+one-shut o buf off q x h k = rw h at k
 
 -- the first byte after n
 at_drop : (n : ℕ) (b : List ℕ) → get_or (drop n b) 0 0 ≡ get_or b n 0
@@ -72,12 +66,9 @@ unfolding spell
 first a = (spelled-last a.spelled).byte
 
 -- its first byte is the first of the part of the buffer that holds it
-module _ (o : Order) (buf : List ℕ) (end off f s : ℕ) (h : One o buf end off f s) where
-  pub some : f < s
-  some = omega (arith, (lies h.stands).past)
-
+module _ (o : Order) (buf : List ℕ) (off f s : ℕ) (h : One o buf off f s) where
   head_byte : get_or (take (s - f) (drop f buf)) 0 0 ≡ get_or buf f 0
-  head_byte = get_or-take (s - f) (drop f buf) 0 0 (omega (arith, some)) ∙ at_drop f buf
+  head_byte = get_or-take (s - f) (drop f buf) 0 0 (omega (arith, h.some)) ∙ at_drop f buf
 
   pub typed : Typed (take (s - f) (drop f buf)) 0
   typed = record { ty = h.ty; next = s - f; stands = h.stands }
@@ -89,19 +80,7 @@ module _ (o : Order) (buf : List ℕ) (end off f s : ℕ) (h : One o buf end off
   wrong_type k n r e q = ne_eqb (code_of h.ty) (code k) (λ z. go h.ty h.stands z)
     where
       some-code : (k : Base) → Kept k → 0 ≡ code k → ⊥
-      some-code (fix u32) number z = omega arith
-      some-code str string z = omega arith
-      some-code path object z = omega arith
-      some-code sig spelling z = omega arith
-      some-code (fix byte) r z = elim r [ ]
-      some-code (fix bool) r z = elim r [ ]
-      some-code (fix i16) r z = elim r [ ]
-      some-code (fix u16) r z = elim r [ ]
-      some-code (fix i32) r z = elim r [ ]
-      some-code (fix i64) r z = elim r [ ]
-      some-code (fix u64) r z = elim r [ ]
-      some-code (fix dbl) r z = elim r [ ]
-      some-code (fix fd) r z = elim r [ ]
+      some-code k r = by-kept (λ k. 0 ≡ code k → ⊥) (λ z. omega arith) (λ z. omega arith) (λ z. omega arith) (λ z. omega arith) k r
 
       go : (t : Ty) → TypeAt t (take (s - f) (drop f buf)) 0 (s - f) → code_of t ≡ code k → ⊥
       go (base d) a z = q (sym head_byte ∙ first a ∙ z ∙ sym e)
@@ -111,8 +90,8 @@ module _ (o : Order) (buf : List ℕ) (end off f s : ℕ) (h : One o buf end off
       go variant a z = some-code k r z
 
 -- a known code and its type
-pub known-code : (c n : ℕ) → (c ≡ 0 → ⊥) → c < 10 → ((k : Base) → wants c ≡ exactly k → n ≡ code k) → Known c n
-known-code c n z l f = go (known-asks c (omega arith) l)
+pub known-code : (c n : ℕ) → 1 ≤ c → c < 10 → ((k : Base) → wants c ≡ exactly k → n ≡ code k) → Known c n
+known-code c n h l f = go (known-asks c h l)
   where
     go : Asks c → Known c n
     go (asks k r e m) = record { of = k; asks = e; is = f k e }
@@ -133,22 +112,22 @@ module _ (o : Order) (c : ℕ) (b : List ℕ) (off : ℕ) where
       let i = bind_inv (read_sig o) (λ s. one_type (parse s)) b off t e h in
       bind-got (read_sig o) (λ s. one_type (parse s) >>= ask_then) b off i.0 i.1 i.2 ∙ bind-got (one_type (parse i.0)) ask_then b i.1 t e i.3
 
-  content-none : (x : Refusal) → type_r o c b off ≡ fault x → field_read.Refused x ≡ content_to c (content_r b off)
+  content-none : (x : Refusal) → type_r o c b off ≡ fault x → Err x ≡ content_to c (content_r b off)
   unfolding and_r
   content-none x h = sym (ap (content_to c) (bind-fault (type_r o c) hold b off x h))
 
-  pub content-shut : (x : Refusal) → one_type_r o b off ≡ fault x → field_read.Refused x ≡ content_to c (content_r b off)
+  pub content-shut : (x : Refusal) → one_type_r o b off ≡ fault x → Err x ≡ content_to c (content_r b off)
   unfolding one_type_r type_r
   content-shut x h =
       content-none x (refuse-alike (read_sig o) (λ s. one_type (parse s)) (λ s. one_type (parse s) >>= ask_then) b off x h (λ s e l. bind-fault (one_type (parse s)) ask_then b e x l))
 
   module _ (t : Ty) (e : ℕ) (reads : one_type_r o b off ≡ got t e) where
-    pub content-zero : (x : Refusal) → wants c ≡ nothing → x ≡ refusal InvalidHeaderField 0 → field_read.Refused x ≡ content_to c (content_r b off)
+    pub content-zero : (x : Refusal) → wants c ≡ nothing → x ≡ refusal InvalidHeaderField 0 → Err x ≡ content_to c (content_r b off)
     unfolding ask fail
     content-zero x h k =
         rw k (content-none (refusal InvalidHeaderField 0) (type-then t e reads ∙ bind-fault (ask (wants c) t) (λ z. ret t) b e (refusal InvalidHeaderField 0) (ap (λ (w : Wants). ask w t b e) h)))
 
-    pub content-wrong : (k : Base) (x : Refusal) → wants c ≡ exactly k → eqb (code_of t) (code k) ≡ false → x ≡ refusal WrongSignature 0 → field_read.Refused x ≡ content_to c (content_r b off)
+    pub content-wrong : (k : Base) (x : Refusal) → wants c ≡ exactly k → eqb (code_of t) (code k) ≡ false → x ≡ refusal WrongSignature 0 → Err x ≡ content_to c (content_r b off)
     unfolding ask check
     content-wrong k x h z l =
         rw l (content-none (refusal WrongSignature 0) (type-then t e reads ∙ bind-fault (ask (wants c) t) (λ z. ret t) b e (refusal WrongSignature 0) (ap (λ (w : Wants). ask w t b e) h ∙ rw (z, check))))
@@ -157,7 +136,7 @@ module _ (o : Order) (c : ℕ) (b : List ℕ) (off : ℕ) where
     unfolding and_r ret
     goes_on h = bind-got (type_r o c) hold b off t e (type-then t e reads ∙ bind-got (ask (wants c) t) (λ z. ret t) b e tt e h)
 
-    pub content-known : (k : Base) (r : FieldRead) → wants c ≡ exactly k → t ≡ base k → r ≡ known_to c k (base_r o k b e) → r ≡ content_to c (content_r b off)
+    pub content-known : (k : Base) (r : Result FieldEntry Refusal) → wants c ≡ exactly k → t ≡ base k → r ≡ known_to c k (base_r o k b e) → r ≡ content_to c (content_r b off)
     unfolding ask ret read
     content-known k r h z l =
         let y : T (eqb (code_of t) (code k)) = rw z (same (code k)) in
@@ -172,19 +151,19 @@ module _ (o : Order) (c : ℕ) (b : List ℕ) (off : ℕ) where
             ap (known_to c k) q ∙ sym (ap (content_to c) (bind-got (base_r o k) (λ v. ret (base k, v)) b e v m q) ∙ ap (λ (w : Wants). kept_as w c m (base k, v)) h)
         go (fault x) q = ap (known_to c k) q ∙ sym (ap (content_to c) (bind-fault (base_r o k) (λ v. ret (base k, v)) b e x q))
 
-    module _ (any : wants c ≡ anything) (q : Walked) (n : ℕ) (walks : q ≡ walked_of n (read o (read_var o 15) t b e)) where
+    module _ (any : wants c ≡ anything) (q : Result Spot Refusal) (n : ℕ) (walks : q ≡ walked_of n (read o (read_var o 15) t b e)) where
       held : content_r b off ≡ hold t b e
       unfolding ask ret
       held = goes_on (ap (λ (w : Wants). ask w t b e) any)
 
-      pub content-past : (p : Spot) → q ≡ walked.Past p → read_as p.buf.0 0 Absent ≡ content_to c (content_r b off)
+      pub content-past : (p : Spot) → q ≡ Ok p → passed_by p.buf.0 ≡ content_to c (content_r b off)
       unfolding ret
       content-past p h =
           let i = past-inv n p (read o (read_var o 15) t b e) (sym walks ∙ h) in
           sym (ap (content_to c) (held ∙ bind-got (read o (read_var o 15) t) (λ v. ret (t, v)) b e i.0 p.buf.0 i.1)
           ∙ ap (λ (w : Wants). kept_as w c p.buf.0 (t, i.0)) any)
 
-      pub content-stop : (x : Refusal) → q ≡ walked.Refused x → field_read.Refused x ≡ content_to c (content_r b off)
+      pub content-stop : (x : Refusal) → q ≡ Err x → Err x ≡ content_to c (content_r b off)
       content-stop x h =
           sym (ap (content_to c) (held ∙ bind-fault (read o (read_var o 15) t) (λ v. ret (t, v)) b e x (stopped-inv n x (read o (read_var o 15) t b e) (sym walks ∙ h))))
 
@@ -196,27 +175,27 @@ module _ (o : Order) (b : List ℕ) (off to : ℕ) (eight : to ≡ 8) where
   abbrev pair_up : ℕ → R Field
   pair_up c = and_r (type_r o c) (λ t. read o (read_var o 15) t) >>= λ w. ret (c, w)
 
-  pub field-stop : (x : Refusal) → reached_of (padding to b off) ≡ Refused x → field_read.Refused x ≡ field_to (field_r o b off)
+  pub field-stop : (x : Refusal) → reached_of (padding to b off) ≡ Err x → Err x ≡ field_to (field_r o b off)
   unfolding field_r
   field-stop x h =
-      let k : reached_of (padding 8 b off) ≡ Refused x = rw eight at h in
+      let k : reached_of (padding 8 b off) ≡ Err x = rw eight at h in
       sym (ap field_to (bind-fault (padding 8) (λ z. parts) b off x (refused-inv (padding 8 b off) x k)))
 
-  module _ (p : Place) (pads : reached_of (padding to b off) ≡ At p) where
+  module _ (p : Place) (pads : reached_of (padding to b off) ≡ Ok p) where
     padded : field_r o b off ≡ parts b p.0
     unfolding field_r
     padded =
-        let k : reached_of (padding 8 b off) ≡ At p = rw eight at pads in
+        let k : reached_of (padding 8 b off) ≡ Ok p = rw eight at pads in
         let i = at-inv (padding 8 b off) p k in
         bind-got (padding 8) (λ z. parts) b off i.0 p.0 i.1
 
-    pub field-short : (x : Refusal) → length b ≤ p.0 → x ≡ refusal NotEnoughBytes 0 → field_read.Refused x ≡ field_to (field_r o b off)
+    pub field-short : (x : Refusal) → length b ≤ p.0 → x ≡ refusal NotEnoughBytes 0 → Err x ≡ field_to (field_r o b off)
     unfolding and_r byte_r
     field-short x l e =
         let s : byte_r b p.0 ≡ fault (refusal NotEnoughBytes 0) = bind-fault (bytes 1 0) (λ x. ret (get_or x 0 0)) b p.0 (refusal NotEnoughBytes 0) (bytes-no 1 0 b p.0 (omega arith)) in
         rw e (sym (ap field_to (padded ∙ bind-fault byte_r pair_up b p.0 (refusal NotEnoughBytes 0) s)))
 
-    pub field-read : (c : ℕ) (r : FieldRead) → p.0 < length b → c ≡ get_or b p.0 0 → r ≡ content_to c (and_r (type_r o c) (λ t. read o (read_var o 15) t) b (p.0 + 1)) → r ≡ field_to (field_r o b off)
+    pub field-read : (c : ℕ) (r : Result FieldEntry Refusal) → p.0 < length b → c ≡ get_or b p.0 0 → r ≡ content_to c (and_r (type_r o c) (λ t. read o (read_var o 15) t) b (p.0 + 1)) → r ≡ field_to (field_r o b off)
     unfolding and_r byte_r ret
     field-read c r l e h =
         let d : get_or (take 1 (drop p.0 b)) 0 0 ≡ c = get_or-take 1 (drop p.0 b) 0 0 (omega arith) ∙ at_drop p.0 b ∙ sym e in

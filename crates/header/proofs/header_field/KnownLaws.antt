@@ -9,11 +9,12 @@ use lib.Seq.{length-take-le}
 use Rattle.meaning.specs.declared.Order.{Order}
 use Rattle.meaning.specs.declared.Refusal.{Refusal}
 use Rattle.meaning.specs.declared.Place.{Place}
-use Rattle.meaning.specs.declared.Reached.TheVariants.{At, Refused}
+use Rattle.std.specs.Prelude.{Result, Ok, Err}
+use Rattle.header.specs.declared.header_field.FieldEntry.{FieldEntry}
 use Rattle.meaning.specs.declared.Entry.{Entry}
 use Rattle.meaning.specs.declared.Entry.TheVariants.{Number, Text}
 use Rattle.meaning.specs.declared.Fault.TheVariants.{InvalidBoolean, InvalidObjectPath}
-use Rattle.meaning.specs.Types.{byte, bool, i16, u16, i32, i64, u64, dbl, fd, Base, fix, u32, str, path, sig, Raw, base, align_base}
+use Rattle.meaning.specs.Types.{Base, u32, Raw, base, align_base}
 use Rattle.meaning.specs.Signature.{code, parse}
 use Rattle.meaning.specs.Number.{load}
 use Rattle.meaning.specs.Text.{no_zero, is_path}
@@ -25,13 +26,9 @@ use Rattle.meaning.proofs.Meets.{here-bind, bytes-bind-inv, check-bind-inv}
 use Rattle.meaning.proofs.BaseMeets.{accept-inv}
 use Rattle.meaning.proofs.Loop.{at-inv, refused-inv}
 use Rattle.text.proofs.strings.Strings.{text-part}
-use Rattle.util.specs.Entry.{Window}
-use Rattle.util.proofs.Windows.{seen}
-use Rattle.header.specs.declared.header_field.FieldRead.{FieldRead}
-use Rattle.header.specs.declared.header_field.FieldRead.TheVariants as field_read
 use Rattle.meaning.specs.Header.{text_entry, entry_as}
 use Rattle.header.specs.HeaderField.{Known, Stands, read_as, known_to}
-use Rattle.header.proofs.header_field.CodeLaws.{Kept, number, string, object, spelling, kept}
+use Rattle.header.proofs.header_field.CodeLaws.{Kept, by-kept, kept}
 
 -- what was read where a known field's value is accepted
 number_is : (o : Order) (b : List ℕ) (p v e : ℕ) → read_fix o u32 b p ≡ got v e → (p + 4 ≤ length b) × (v ≡ load o (take 4 (drop p b)))
@@ -73,105 +70,65 @@ entry-is p w e v h =
 module _ (o : Order) (c k : ℕ) (b : Base) (b8 : Kept b) (is : k ≡ code b) (s : List ℕ) (p : ℕ) (v : Raw b) (e : ℕ) (h : bare_r o b s p ≡ got v e) where
   number-entry : k ≡ 117 → (p + 4 ≤ length s) × ((n : ℕ) → n ≡ load o (take 4 (drop p s)) → Number n ≡ entry_as e (base b, v))
   unfolding bare_r
-  number-entry q = go b b8 is v h
-    where
-      go : (b : Base) → Kept b → k ≡ code b → (v : Raw b) → bare_r o b s p ≡ got v e → (p + 4 ≤ length s) × ((n : ℕ) → n ≡ load o (take 4 (drop p s)) → Number n ≡ entry_as e (base b, v))
-      go (fix u32) number i v h = let j = number_is o s p v e h in (j.0, λ n z. ap Number (z ∙ sym j.1))
-      go str string i v h = absurd (omega arith)
-      go path object i v h = absurd (omega arith)
-      go sig spelling i v h = absurd (omega arith)
-      go (fix byte) r i v h = elim r [ ]
-      go (fix bool) r i v h = elim r [ ]
-      go (fix i16) r i v h = elim r [ ]
-      go (fix u16) r i v h = elim r [ ]
-      go (fix i32) r i v h = elim r [ ]
-      go (fix i64) r i v h = elim r [ ]
-      go (fix u64) r i v h = elim r [ ]
-      go (fix dbl) r i v h = elim r [ ]
-      go (fix fd) r i v h = elim r [ ]
+  number-entry q =
+      by-kept
+      (λ b. k ≡ code b → (v : Raw b) → bare_r o b s p ≡ got v e → (p + 4 ≤ length s) × ((n : ℕ) → n ≡ load o (take 4 (drop p s)) → Number n ≡ entry_as e (base b, v)))
+      (λ i v h. let j = number_is o s p v e h in (j.0, λ n z. ap Number (z ∙ sym j.1)))
+      (λ i v h. absurd (omega (arith, q, i))) (λ i v h. absurd (omega (arith, q, i))) (λ i v h. absurd (omega (arith, q, i))) b b8 is v h
 
   spelling-entry : k ≡ 103 → (p + 1 + 1 ≤ e) × (Text (record { 0 = p + 1 }) (record { 0 = e - 1 - (p + 1) }) ≡ entry_as e (base b, v))
   unfolding bare_r
-  spelling-entry q = go b b8 is v h
-    where
-      go : (b : Base) → Kept b → k ≡ code b → (v : Raw b) → bare_r o b s p ≡ got v e → (p + 1 + 1 ≤ e) × (Text (record { 0 = p + 1 }) (record { 0 = e - 1 - (p + 1) }) ≡ entry_as e (base b, v))
-      go (fix u32) number i v h = absurd (omega arith)
-      go str string i v h = absurd (omega arith)
-      go path object i v h = absurd (omega arith)
-      go sig spelling i v h = entry-is p 1 e v (spelling-ends o s p v e h)
-      go (fix byte) r i v h = elim r [ ]
-      go (fix bool) r i v h = elim r [ ]
-      go (fix i16) r i v h = elim r [ ]
-      go (fix u16) r i v h = elim r [ ]
-      go (fix i32) r i v h = elim r [ ]
-      go (fix i64) r i v h = elim r [ ]
-      go (fix u64) r i v h = elim r [ ]
-      go (fix dbl) r i v h = elim r [ ]
-      go (fix fd) r i v h = elim r [ ]
+  spelling-entry q =
+      by-kept
+      (λ b. k ≡ code b → (v : Raw b) → bare_r o b s p ≡ got v e → (p + 1 + 1 ≤ e) × (Text (record { 0 = p + 1 }) (record { 0 = e - 1 - (p + 1) }) ≡ entry_as e (base b, v)))
+      (λ i v h. absurd (omega (arith, q, i))) (λ i v h. absurd (omega (arith, q, i))) (λ i v h. absurd (omega (arith, q, i)))
+      (λ i v h. entry-is p 1 e v (spelling-ends o s p v e h)) b b8 is v h
 
   text-entry : (k ≡ 117 → ⊥) → (k ≡ 103 → ⊥) → (p + 4 + 1 ≤ e) × (Text (record { 0 = p + 4 }) (record { 0 = e - 1 - (p + 4) }) ≡ entry_as e (base b, v))
   unfolding bare_r
-  text-entry m q = go b b8 is v h
-    where
-      go : (b : Base) → Kept b → k ≡ code b → (v : Raw b) → bare_r o b s p ≡ got v e → (p + 4 + 1 ≤ e) × (Text (record { 0 = p + 4 }) (record { 0 = e - 1 - (p + 4) }) ≡ entry_as e (base b, v))
-      go (fix u32) number i v h = absurd (m i)
-      go str string i v h = entry-is p 4 e v (text-ends o s p v e h)
-      go path object i v h = entry-is p 4 e v (path-ends o s p v e h)
-      go sig spelling i v h = absurd (q i)
-      go (fix byte) r i v h = elim r [ ]
-      go (fix bool) r i v h = elim r [ ]
-      go (fix i16) r i v h = elim r [ ]
-      go (fix u16) r i v h = elim r [ ]
-      go (fix i32) r i v h = elim r [ ]
-      go (fix i64) r i v h = elim r [ ]
-      go (fix u64) r i v h = elim r [ ]
-      go (fix dbl) r i v h = elim r [ ]
-      go (fix fd) r i v h = elim r [ ]
+  text-entry m q =
+      by-kept
+      (λ b. k ≡ code b → (v : Raw b) → bare_r o b s p ≡ got v e → (p + 4 + 1 ≤ e) × (Text (record { 0 = p + 4 }) (record { 0 = e - 1 - (p + 4) }) ≡ entry_as e (base b, v)))
+      (λ i v h. absurd (m i)) (λ i v h. entry-is p 4 e v (text-ends o s p v e h)) (λ i v h. entry-is p 4 e v (path-ends o s p v e h)) (λ i v h. absurd (q i)) b b8 is v h
 
 -- what the code learns of a value that stands there, by the code of its type
-module _ {o : Order} {k : ℕ} {buf : List ℕ} {at next end c : ℕ} {b : Base} {v : Raw b} (h : Stands o k buf at next end c b v) where
-  pub is_number : k ≡ 117 → (at + 4 ≤ end) × ((n : ℕ) → n ≡ load o (take 4 (drop at buf)) → Number n ≡ entry_as next (base b, v))
-  is_number e =
-      let i = number-entry o c k b (kept c b h.asks) h.is (take end buf) at v next h.reads e in
-      let l : at + 4 ≤ end = omega (arith, i.0, length-take-le end buf h.held) in
-      (l, λ n z. i.1 n (z ∙ sym (ap (load o) (seen buf end at 4 l h.held))))
+module _ {o : Order} {k : ℕ} {buf : List ℕ} {at next c : ℕ} {b : Base} {v : Raw b} (h : Stands o k buf at next c b v) where
+  pub is_number : k ≡ 117 → (at + 4 ≤ length buf) × ((n : ℕ) → n ≡ load o (take 4 (drop at buf)) → Number n ≡ entry_as next (base b, v))
+  is_number e = number-entry o c k b (kept c b h.asks) h.is buf at v next h.reads e
 
   pub is-spelling : k ≡ 103 → (at + 1 + 1 ≤ next) × (Text (record { 0 = at + 1 }) (record { 0 = next - 1 - (at + 1) }) ≡ entry_as next (base b, v))
-  is-spelling e = spelling-entry o c k b (kept c b h.asks) h.is (take end buf) at v next h.reads e
+  is-spelling e = spelling-entry o c k b (kept c b h.asks) h.is buf at v next h.reads e
 
   pub is-text : (k ≡ 117 → ⊥) → (k ≡ 103 → ⊥)
       → (at + 4 + 1 ≤ next) × (Text (record { 0 = at + 4 }) (record { 0 = next - 1 - (at + 4) }) ≡ entry_as next (base b, v))
-  is-text m e = text-entry o c k b (kept c b h.asks) h.is (take end buf) at v next h.reads m e
+  is-text m e = text-entry o c k b (kept c b h.asks) h.is buf at v next h.reads m e
 
-module _ (o : Order) (c k : ℕ) (kn : Known c k) (buf : List ℕ) (end off : ℕ) (w : Window buf end off) where
-  abbrev seen_part : List ℕ
-  seen_part = take end buf
-
+module _ (o : Order) (c k : ℕ) (kn : Known c k) (buf : List ℕ) (off : ℕ) where
   abbrev of : Base
   of = kn.of
 
   -- no other type is asked for
-  pub only : (r : FieldRead) → r ≡ known_to c of (base_r o of seen_part off) → (b : Base) → wants c ≡ exactly b → r ≡ known_to c b (base_r o b seen_part off)
-  only r h b e = let z : of ≡ b = let y = kn.asks in cc in subst (λ (d : Base). r ≡ known_to c d (base_r o d seen_part off)) z h
+  pub only : (r : Result FieldEntry Refusal) → r ≡ known_to c of (base_r o of buf off) → (b : Base) → wants c ≡ exactly b → r ≡ known_to c b (base_r o b buf off)
+  only r h b e = let z : of ≡ b = let y = kn.asks in cc in subst (λ (d : Base). r ≡ known_to c d (base_r o d buf off)) z h
 
-  pub pad-stop : (x : Refusal) → reached_of (padding (align_base of) seen_part off) ≡ Refused x → field_read.Refused x ≡ known_to c of (base_r o of seen_part off)
+  pub pad-stop : (x : Refusal) → reached_of (padding (align_base of) buf off) ≡ Err x → Err x ≡ known_to c of (base_r o of buf off)
   unfolding base_r
-  pad-stop x h = sym (ap (known_to c of) (bind-fault (padding (align_base of)) (λ z. bare_r o of) seen_part off x (refused-inv (padding (align_base of) seen_part off) x h)))
+  pad-stop x h = sym (ap (known_to c of) (bind-fault (padding (align_base of)) (λ z. bare_r o of) buf off x (refused-inv (padding (align_base of) buf off) x h)))
 
-  module _ (p : Place) (pads : reached_of (padding (align_base of) seen_part off) ≡ At p) where
-    past : base_r o of seen_part off ≡ bare_r o of seen_part p.0
+  module _ (p : Place) (pads : reached_of (padding (align_base of) buf off) ≡ Ok p) where
+    past : base_r o of buf off ≡ bare_r o of buf p.0
     unfolding base_r
-    past = let i = at-inv (padding (align_base of) seen_part off) p pads in bind-got (padding (align_base of)) (λ z. bare_r o of) seen_part off i.0 p.0 i.1
+    past = let i = at-inv (padding (align_base of) buf off) p pads in bind-got (padding (align_base of)) (λ z. bare_r o of) buf off i.0 p.0 i.1
 
-    pub bare-stop : (x : Refusal) → reached_of (bare_r o of seen_part p.0) ≡ Refused x → field_read.Refused x ≡ known_to c of (base_r o of seen_part off)
-    bare-stop x h = sym (ap (known_to c of) (past ∙ refused-inv (bare_r o of seen_part p.0) x h))
+    pub bare-stop : (x : Refusal) → reached_of (bare_r o of buf p.0) ≡ Err x → Err x ≡ known_to c of (base_r o of buf off)
+    bare-stop x h = sym (ap (known_to c of) (past ∙ refused-inv (bare_r o of buf p.0) x h))
 
-    module _ (q : Place) (reads : reached_of (bare_r o of seen_part p.0) ≡ At q) where
-      abbrev pub value : (v : Raw of) × (bare_r o of seen_part p.0 ≡ got v q.0)
-      value = at-inv (bare_r o of seen_part p.0) q reads
+    module _ (q : Place) (reads : reached_of (bare_r o of buf p.0) ≡ Ok q) where
+      abbrev pub value : (v : Raw of) × (bare_r o of buf p.0 ≡ got v q.0)
+      value = at-inv (bare_r o of buf p.0) q reads
 
-      pub stood : Stands o k buf p.0 q.0 end c of value.0
-      stood = record { asks = kn.asks; is = kn.is; held = w.held; reads = value.1 }
+      pub stood : Stands o k buf p.0 q.0 c of value.0
+      stood = record { asks = kn.asks; is = kn.is; reads = value.1 }
 
-      pub holds : (n : Entry) (r : FieldRead) → n ≡ entry_as q.0 (base of, value.0) → r ≡ read_as q.0 c n → r ≡ known_to c of (base_r o of seen_part off)
+      pub holds : (n : Entry) (r : Result FieldEntry Refusal) → n ≡ entry_as q.0 (base of, value.0) → r ≡ read_as q.0 c n → r ≡ known_to c of (base_r o of buf off)
       holds n r h g = g ∙ ap (λ (y : Entry). read_as q.0 c y) h ∙ sym (ap (known_to c of) (past ∙ value.1))

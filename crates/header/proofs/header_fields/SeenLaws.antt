@@ -2,13 +2,19 @@
 use Prim.Native.Nat.{ℕ, zero, suc, ◌+◌, ◌≤◌, ◌<◌}
 use native.Mathlib.Omega.{arith}
 use mathlib.Core.Bool.{Bool, true, false, ◌&&◌}
-use mathlib.Core.Path.{◌≡◌, refl, sym, subst}
+use mathlib.Core.Path.{◌≡◌, refl, sym, subst, ◌∙◌}
 use lib.Dec.{T}
+use lib.ListN.{get_or}
+use lib.Dec.{leb}
+use mathlib.Core.List.{List}
+use Rattle.header.specs.declared.header_fields.Seen.{Seen}
 use Rattle.meaning.specs.declared.Entry.{Entry}
+use Rattle.meaning.specs.declared.MessageType.{MessageType}
+use Rattle.meaning.specs.declared.MessageType.TheVariants.{Signal}
 use Rattle.meaning.specs.Message.{every, known_codes}
 use Rattle.meaning.proofs.Rules.{every-all, every-same, each_from, one_from}
 use Rattle.meaning.proofs.Local.{Cmp, is_le, is_gt, cmp}
-use Rattle.header.specs.HeaderFields.{first_of}
+use Rattle.header.specs.HeaderFields.{unseen, first_of, present}
 
 pub later-kept : (n : ℕ) (old new : Entry) → (n ≡ 0 → ⊥) → old ≡ first_of n old new
 later-kept zero old new h = absurd (h refl)
@@ -38,3 +44,16 @@ module _ (p : ℕ → Bool) where
       go : Cmp n c → p c ≡ true
       go (is_le t l) = let z : n ≡ c = omega arith in subst (λ (k : ℕ). p k ≡ true) z e
       go (is_gt t l) = h c a l
+
+-- what is tested of a signal, in turn
+module _ (ss : List Seen) where
+  abbrev stands : ℕ → Bool
+  stands c = leb 1 (get_or ss c unseen).count
+
+  pub signal-needs : (k : MessageType) → k ≡ Signal → stands 1 ≡ true → stands 2 ≡ true → stands 3 ≡ present k ss
+  unfolding present
+  signal-needs k e a b = simp (e, a, b, and-true)
+
+  pub signal-lacks : (k : MessageType) → k ≡ Signal → stands 1 ≡ true → (x : Bool) → x ≡ stands 2 → x ≡ false → x ≡ present k ss
+  unfolding present
+  signal-lacks k e a x h f = let z : stands 2 ≡ false = sym h ∙ f in simp (e, a, z, f)

@@ -1,10 +1,11 @@
 -- The entry that is found says which part of the message it is; without one the fallback comes back.
+use mathlib.Core.Logic.{inl, inr}
 use native.Mathlib.Omega.{arith}
 use Rattle.lookup.proofs.LookupLaws.{look-text, look-number, look-absent}
 use Rattle.lookup.proofs.lookup.Goals as goal
 
-pub overflow_add-past : goal.overflow_add-past
-overflow_add-past c =
+pub overflow_add-result : goal.overflow_add-result
+overflow_add-result c =
     let t = look-text _ c.args.code c.args.fallback.now (λ i. omega (arith, c.type_inv.message i)) _ c.find.ensures _ _ c.in-Text.is in
     omega (arith, t.0)
 
@@ -14,13 +15,10 @@ slice_bounds-result-end c =
     omega (arith, t.0)
 
 pub returns-in-Text : goal.returns-in-Text
-returns-in-Text c =
-    (look-text _ _ _ (λ i. omega (arith, c.type_inv.message i)) _ c.find.ensures _ _ c.in-Text.is).1
+returns-in-Text c = (look-text _ _ _ (λ i. omega (arith, c.type_inv.message i)) _ c.find.ensures _ _ c.in-Text.is).1
 
 pub returns-in-Number : goal.returns-in-Number
-returns-in-Number c =
-    look-number _ _ _ (λ i. omega (arith, c.type_inv.message i)) _ c.find.ensures _ c.in-Number.is
-
-pub returns-in-Absent : goal.returns-in-Absent
-returns-in-Absent c =
-    look-absent _ _ _ (λ i. omega (arith, c.type_inv.message i)) _ c.find.ensures c.in-Absent.is
+returns-in-Number c = elim c.in-Number.is [
+  | inl n ↦ look-number _ _ _ (λ i. omega (arith, c.type_inv.message i)) _ c.find.ensures n.0 n.1
+  | inr none ↦ look-absent _ _ _ (λ i. omega (arith, c.type_inv.message i)) _ c.find.ensures none
+]

@@ -3,7 +3,9 @@ use Prim.Native.Nat.{ℕ}
 use mathlib.Core.List.{List}
 use mathlib.Core.Path.{◌≡◌, refl, sym, ap, ◌∙◌}
 use Rattle.meaning.specs.declared.Order.{Order}
-use Rattle.meaning.specs.declared.FixedRead.{FixedRead}
+use Rattle.std.specs.Prelude.{Result}
+use Rattle.meaning.specs.declared.FixedValue.{FixedValue}
+use Rattle.meaning.specs.declared.Refusal.{Refusal}
 use Rattle.meaning.specs.ReadValue.{check_value}
 use Rattle.meaning.specs.FixedValue.{read_fixed}
 use Rattle.structs.specs.declared.MtAnswer.{MtAnswer}
@@ -16,19 +18,19 @@ made : {a b : MtAnswer} {k l x y : ℕ} → a ≡ b → k ≡ l → x ≡ y → 
 made e f g = rw (e, f, g) refl
 
 -- what the answer is made of, where the value was read in an order that is named
-named : {o p : Order} (e : o ≡ p) (sig buf : List ℕ) (off : ℕ) {r x : FixedRead} → r ≡ read_fixed o sig buf off → r ≡ x
+named : {o p : Order} (e : o ≡ p) (sig buf : List ℕ) (off : ℕ) {r x : Result FixedValue Refusal} → r ≡ read_fixed o sig buf off → r ≡ x
     → fixed_of x (check_value p sig buf off) ≡ fixed_of (read_fixed p sig buf off) (check_value p sig buf off)
 named {o} {p} e sig buf off q k =
-    ap (λ (x : FixedRead). fixed_of x (check_value p sig buf off)) (sym k ∙ q ∙ ap (λ (o : Order). read_fixed o sig buf off) e)
+    ap (λ (x : Result FixedValue Refusal). fixed_of x (check_value p sig buf off)) (sym k ∙ q ∙ ap (λ (o : Order). read_fixed o sig buf off) e)
 
-pub returns-in-Read : goal.returns-in-Read
-returns-in-Read c =
+pub returns-in-Ok : goal.returns-in-Ok
+returns-in-Ok c =
     let a = c.args in
     made c.mt_check_value.ensures c.letter.ensures c.bits.ensures
-    ∙ named c.order.ensures a.sig.now a.buf.now a.offset c.unmarshal_fixed.ensures c.in-Read.is
+    ∙ named c.order.ensures a.sig.now a.buf.now a.offset c.unmarshal_fixed.ensures c.in-Ok.is
 
-pub returns-in-Refused : goal.returns-in-Refused
-returns-in-Refused c =
+pub returns-in-Err : goal.returns-in-Err
+returns-in-Err c =
     let a = c.args in
     made c.refused.ensures refl refl
-    ∙ named c.order.ensures a.sig.now a.buf.now a.offset c.unmarshal_fixed.ensures c.in-Refused.is
+    ∙ named c.order.ensures a.sig.now a.buf.now a.offset c.unmarshal_fixed.ensures c.in-Err.is

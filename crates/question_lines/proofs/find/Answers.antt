@@ -1,33 +1,26 @@
--- The loop's invariant: the byte stands nowhere before the index, so what is left to search leads to what all of it leads to.
-use native.Mathlib.Omega.{arith}
-use mathlib.Core.Path.{refl}
-use borrow.Author.Tests.{eq-eqb, ne_eqb}
-use Rattle.question_lines.proofs.Laws.{find-step, find-end}
+-- The search is of the part, so what it finds stands that far behind `from`.
+use Rattle.std.proofs.Common.{◌≡◌, ◌+◌, ◌-◌, nat_eq, length, sym, ap, ◌∙◌, arith, rules, length-take-le, length-drop}
+use Rattle.std.specs.List.{between, position}
+use Rattle.std.proofs.lemmas.Iterator.{YieldsList-from_slice}
+use Rattle.std.proofs.lemmas.Iterator.Search.{position_from_yields_List}
+use Rattle.question_lines.proofs.Laws.{found_at, found_none}
 use Rattle.question_lines.proofs.find.Goals as goal
 
-pub loop-i-init : goal.loop-i-init
-loop-i-init c = (omega arith, c.requires.ordered, refl)
-
-pub returns-then-s-i : goal.returns-then-s-i
-returns-then-s-i c =
+pub returns-in-Some-clause-place : goal.returns-in-Some-clause-place
+returns-in-Some-clause-place c =
     let a = c.args in
-    let l = c.loop-i in
-    let s = find-step a.b l.i a.to a.s.now (omega arith) c.requires.within in
-    record {
-      place = omega (arith, l.invariant.2, rw (eq-eqb _ a.b c.if-s-i.true) at s);
-      low = l.invariant.0;
-      high = omega arith;
-    }
+    let part = between a.from a.to a.s.now in
+    let chain = YieldsList-from_slice part c.iter.ensures.rest in
+    let p : c.position.result ≡ position (λ x. nat_eq x a.b) part =
+    position_from_yields_List _ _ _ _ c.position.ensures.ran chain (λ x b q k. search rules) in
+    ap (λ i. a.from + i) (sym (found_at a.b part c.in-Some.i (sym p ∙ c.in-Some.is)))
 
-pub loop-i-preserved : goal.loop-i-preserved
-loop-i-preserved c =
+pub returns-in-None-clause-place : goal.returns-in-None-clause-place
+returns-in-None-clause-place c =
     let a = c.args in
-    let l = c.loop-i in
-    let s = find-step a.b l.i a.to a.s.now (omega arith) c.requires.within in
-    (omega arith, omega arith, omega (arith, l.invariant.2, rw (ne_eqb _ a.b c.if-s-i.false) at s))
-
-pub returns : goal.returns
-returns c =
-    let a = c.args in
-    let l = c.loop-i in
-    record { place = find-end a.b l.i a.to _ a.s.now (omega arith) l.invariant.2; low = c.requires.ordered; high = omega arith }
+    let part = between a.from a.to a.s.now in
+    let chain = YieldsList-from_slice part c.iter.ensures.rest in
+    let p : c.position.result ≡ position (λ x. nat_eq x a.b) part =
+    position_from_yields_List _ _ _ _ c.position.ensures.ran chain (λ x b q k. search rules) in
+    let long : length part ≡ a.to - a.from = length-take-le _ _ (simp length-drop (omega arith)) in
+    omega (arith, found_none a.b part (sym p ∙ c.in-None.is))

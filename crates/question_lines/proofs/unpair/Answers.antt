@@ -1,34 +1,40 @@
--- The loop's invariant: what is left to store leads to what all of it leads to.
-use Rattle.question_lines.proofs.Laws.{digit_at}
-use Prim.Native.Nat.{◌+◌, ◌*◌}
-use native.Mathlib.Omega.{arith}
-use lib.ListN.{length-set, drop_of_length-le}
-use Rattle.question_lines.specs.Digits.{pairs}
-use Rattle.question_lines.proofs.Laws.{pairs-turn}
+-- Each pair is stored in its place.
+use Rattle.std.proofs.Common.{◌≡◌, ◌+◌, ◌*◌, get_or, rules, arith, length-set}
+use Rattle.std.proofs.lemmas.List.{drop_all}
+use Rattle.question_lines.specs.Digits.{digit_of, pairs}
+use Rattle.question_lines.proofs.Laws.{digit_of_pair, pairs-turn}
 use Rattle.question_lines.proofs.unpair.Goals as goal
 
-pub overflow_mul-out : goal.overflow_mul-out
-overflow_mul-out c =
-    omega (arith, c.digit.ensures, digit_at 16 c.args.s.now (2 * c.loop-i.i) c.requires.2 (omega arith))
+pub unwrap-requires : goal.unwrap-requires
+unwrap-requires c =
+    let i = c.loop-i.i in
+    let front = c.as_chunks.ensures.front in
+    let some = digit_of_pair c.args.s.now _ i 0 (2 * i) _ front (omega arith) (omega arith) (omega arith) c.requires.2 c.digit.ensures in
+    rw some (search rules)
 
-pub overflow_add-out : goal.overflow_add-out
-overflow_add-out c =
+pub unwrap-requires-in-loop-i : goal.unwrap-requires-in-loop-i
+unwrap-requires-in-loop-i c =
+    let i = c.loop-i.i in
     let s = c.args.s.now in
-    let one = digit_at 16 s (2 * c.loop-i.i) c.requires.2 (omega arith) in
-    let two = digit_at 16 s (2 * c.loop-i.i + 1) c.requires.2 (omega arith) in
-    omega (arith, c.digit.ensures, c.digit-in-loop-i.ensures)
+    let front = c.as_chunks.ensures.front in
+    let some = digit_of_pair s _ i 1 (2 * i + 1) _ front (omega arith) (omega arith) (omega arith) c.requires.2 c.digit-in-loop-i.ensures in
+    rw some (search rules)
 
 pub loop-i-preserved : goal.loop-i-preserved
 loop-i-preserved c =
     let l = c.loop-i in
-    let t = pairs-turn l.out _ c.args.s.now l.i (omega arith) l.invariant.2 in
-    (omega arith, simp length-set l.invariant.1, rw (c.digit.ensures, c.digit-in-loop-i.ensures) t)
+    let i = l.i in
+    let s = c.args.s.now in
+    let front = c.as_chunks.ensures.front in
+    let one = digit_of_pair s _ i 0 (2 * i) _ front (omega arith) (omega arith) (omega arith) c.requires.2 c.digit.ensures in
+    let two = digit_of_pair s _ i 1 (2 * i + 1) _ front (omega arith) (omega arith) (omega arith) c.requires.2 c.digit-in-loop-i.ensures in
+    let high : c.unwrap.result ≡ digit_of (get_or s (2 * i) 0) = cc (one, c.unwrap.ensures) in
+    let low : c.unwrap-in-loop-i.result ≡ digit_of (get_or s (2 * i + 1) 0) = cc (two, c.unwrap-in-loop-i.ensures) in
+    let turn = pairs-turn l.out _ s i (omega arith) l.invariant.1 in
+    (simp length-set l.invariant.0, rw (high, low) turn)
 
 pub returns : goal.returns
 unfolding pairs
 returns c =
     let l = c.loop-i in
-    rw (drop_of_length-le c.args.s.now {i = 2 * l.i} (omega arith)) at l.invariant.2
-
-pub shape_of-out : goal.shape_of-out
-shape_of-out c = c.loop-i.invariant.1
+    rw (drop_all (2 * l.i) c.args.s.now (omega arith)) at l.invariant.1

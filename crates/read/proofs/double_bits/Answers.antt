@@ -1,12 +1,12 @@
--- A double that equals itself is no NaN, and a NaN is all that does not.
-use Rattle.read.proofs.Extends.{has-bits, double-same, double-nan}
+-- The test is the one that the definition makes.
+use mathlib.Core.Path.{refl, sym, ◌∙◌}
+use Rattle.read.specs.Bits.{double_bits}
 use Rattle.read.proofs.double_bits.Goals as goal
 
-pub float_to_bits-result : goal.float_to_bits-result
-float_to_bits-result c = has-bits _ c.if-x.true
+pub returns-then-is_nan : goal.returns-then-is_nan
+unfolding double_bits
+returns-then-is_nan c = rw (sym c.is_nan.ensures.value ∙ c.if-is_nan.true) refl
 
-pub returns-then-x : goal.returns-then-x
-returns-then-x c = double-same _ c.if-x.true
-
-pub returns-else-x : goal.returns-else-x
-returns-else-x c = double-nan _ c.if-x.false
+pub returns-else-is_nan : goal.returns-else-is_nan
+unfolding double_bits
+returns-else-is_nan c = rw (sym c.is_nan.ensures.value ∙ c.if-is_nan.false) refl

@@ -14,8 +14,8 @@ returns-then-is_basic c =
     λ k f. let b = coded a.c (sym is-basic.ensures ∙ c.if-is_basic.true) in rw (step-base a.c k b.type b.is)
     (c.basic.ensures k b.type b.is f)
 
-pub returns-then-c-eq118 : goal.returns-then-c-eq118
-returns-then-c-eq118 c = λ k f. rw (step_variant c.args.c k c.if-c-eq118.true) (c.leaf.ensures k variant leaf-variant f)
+pub returns-in-118 : goal.returns-in-118
+returns-in-118 c = λ k f. rw (step_variant c.args.c k c.in-118.is) (c.leaf.ensures k variant leaf-variant f)
 
 pub overflow_add-state : goal.overflow_add-state
 overflow_add-state c = let r = c.requires in omega (arith, r.room, arrays-low r.follows.stands)
@@ -23,38 +23,32 @@ overflow_add-state c = let r = c.requires in omega (arith, r.room, arrays-low r.
 pub begin-requires : goal.begin-requires
 begin-requires c = let r = c.requires in record { stack = r.stack; next = in_arr r.stack; begins = begins-array r.follows; room = r.room }
 
-pub returns-then-c-eq97 : goal.returns-then-c-eq97
-returns-then-c-eq97 c = λ k f. rw (step-array c.args.c k c.if-c-eq97.true) (c.begin.ensures k (in_arr k) (begins-array f))
+pub returns-in-97 : goal.returns-in-97
+returns-in-97 c = λ k f. rw (step-array c.args.c k c.in-97.is) (c.begin.ensures k (in_arr k) (begins-array f))
 
-pub overflow_add-state-then-c-eq40 : goal.overflow_add-state-then-c-eq40
-overflow_add-state-then-c-eq40 c = let r = c.requires in omega (arith, r.room, structs-low r.follows.stands)
+pub overflow_add-state-in-40 : goal.overflow_add-state-in-40
+overflow_add-state-in-40 c = let r = c.requires in omega (arith, r.room, structs-low r.follows.stands)
 
-pub begin-requires-then-c-eq40 : goal.begin-requires-then-c-eq40
-begin-requires-then-c-eq40 c =
+pub begin-requires-in-40 : goal.begin-requires-in-40
+begin-requires-in-40 c =
     let r = c.requires in
     record { stack = r.stack; next = open0 r.stack; begins = begins-struct r.follows; room = r.room }
 
-pub returns-then-c-eq40 : goal.returns-then-c-eq40
-returns-then-c-eq40 c =
+pub returns-in-40 : goal.returns-in-40
+returns-in-40 c =
     let a = c.args in
-    let if4 = c.if-c-eq40 in
-    λ k f. rw (step-struct a.c k if4.true) (c.begin-then-c-eq40.ensures k (open0 k) (begins-struct f))
+    λ k f. rw (step-struct a.c k c.in-40.is) (c.begin-in-40.ensures k (open0 k) (begins-struct f))
 
-pub returns-then-c-eq123 : goal.returns-then-c-eq123
-returns-then-c-eq123 c = λ k f. rw (step-curl c.args.c k c.if-c-eq123.true) (c.curl.ensures k f)
+pub returns-in-123 : goal.returns-in-123
+returns-in-123 c = λ k f. rw (step-curl c.args.c k c.in-123.is) (c.curl.ensures k f)
 
-pub returns-then-c-eq41 : goal.returns-then-c-eq41
-returns-then-c-eq41 c = λ k f. rw (step-close c.args.c k c.if-c-eq41.true) (c.close.ensures k f)
+pub returns-in-41 : goal.returns-in-41
+returns-in-41 c = λ k f. rw (step-close c.args.c k c.in-41.is) (c.close.ensures k f)
 
-pub returns-then-c-eq125 : goal.returns-then-c-eq125
-returns-then-c-eq125 c = λ k f. rw (step-uncurl c.args.c k c.if-c-eq125.true) (c.uncurl.ensures k f)
+pub returns-in-125 : goal.returns-in-125
+returns-in-125 c = λ k f. rw (step-uncurl c.args.c k c.in-125.is) (c.uncurl.ensures k f)
 
-pub returns : goal.returns
-returns c =
-    let is-basic = c.is_basic in
-    let if1 = c.if-is_basic in
-    let if2 = c.if-c-eq118 in
-    let if3 = c.if-c-eq97 in
-    let if4 = c.if-c-eq40 in
-    λ k f. refuses _ _ (step-bad k (omega arith) (sym is-basic.ensures ∙ if1.false) if2.false if3.false if4.false
-    c.if-c-eq123.false c.if-c-eq41.false c.if-c-eq125.false)
+pub returns-in_default : goal.returns-in_default
+returns-in_default c =
+    λ k f. refuses _ _ (step-bad k (omega arith) (sym c.is_basic.ensures ∙ c.if-is_basic.false) (λ e. omega arith) (λ e. omega arith) (λ e. omega arith)
+    (λ e. omega arith) (λ e. omega arith) (λ e. omega arith))

@@ -4,6 +4,7 @@ use Prim.Native.Nat.{ℕ}
 use mathlib.Core.Bool.{not}
 use lib.Dec.{eqb}
 use native.Mathlib.Omega.{arith}
+use borrow.Author.Rules.{rules}
 use Rattle.signature.proofs.CodeLaws.{composite-code, table-code}
 use Rattle.signature.proofs.is_basic.Goals as goal
 
@@ -13,4 +14,4 @@ returns-in-97 c = sym (composite-code c.in-97.is)
 pub returns-in_default : goal.returns-in_default
 returns-in_default c =
     let x = c.args.c in
-    sym (table-code x (omega arith) c.in_default.in_default-own.rest.1 ∙ ap (λ (n : ℕ). not (eqb n 0)) (sym c.align.ensures))
+    sym (table-code x (omega arith) (search rules) ∙ ap (λ (n : ℕ). not (eqb n 0)) (sym c.align.ensures))

@@ -14,6 +14,3 @@ put-requires c =
           { stack = r.stack; type = variant; is = refl; takes = leaf-takes variant leaf-variant r.follows c.shallow.ensures };
       room = r.room;
     }
-
-pub returns : goal.returns
-returns c = λ k t l f. c.put.ensures (put k t) (record { stack = k; type = t; is = refl; takes = leaf-takes t l f c.shallow.ensures })

@@ -1,26 +1,24 @@
--- The table's alignment, with the array's and the struct's codes left out, tells the types of one code.
+-- A byte is a signature by itself if it is the variant's code or a basic type's.
 use mathlib.Core.Path.{ap, sym, ◌∙◌}
 use native.Mathlib.Omega.{arith}
-use Rattle.meaning.specs.declared.Counted.TheVariants.{Refused}
-use Rattle.signature.proofs.RunLaws.{alone-array, alone-struct, alone-none, alone-type}
+use borrow.Author.Tests.{eq-eqb}
+use Rattle.std.specs.Prelude.{Err}
+use Rattle.std.proofs.lemmas.Bool.{false≢true}
+use Rattle.signature.proofs.RunLaws.{alone-variant, alone-basic, alone-none}
 use Rattle.signature.proofs.parse_byte.Goals as goal
+use Rattle.signature.proofs.parse_byte.Goals.{then-c-eq118, else-c-eq118}
 
-pub returns-then-c-eq97 : goal.returns-then-c-eq97
-returns-then-c-eq97 c = ap Refused c.refuse.ensures ∙ sym (alone-array c.args.c (omega arith) c.if-c-eq97.true)
+pub returns-then-is_basic : goal.returns-then-is_basic
+returns-then-is_basic c =
+    elim c.if-c-eq118.branch [
+      | then-c-eq118 w ↦ sym (alone-variant _ (omega arith) w.if-c-eq118.true)
+      | else-c-eq118 w ↦ sym (alone-basic _ (omega arith) (sym w.is_basic.ensures ∙ sym w.value-is ∙ c.if-is_basic.true))
+    ]
 
-pub returns-then-c-eq40 : goal.returns-then-c-eq40
-returns-then-c-eq40 c = ap Refused c.refuse-then-c-eq40.ensures ∙ sym (alone-struct c.args.c (omega arith) c.if-c-eq40.true)
-
-pub returns-then-align-eq0 : goal.returns-then-align-eq0
-returns-then-align-eq0 c =
-    let a = c.args in
-    let if1 = c.if-c-eq97 in
-    let if2 = c.if-c-eq40 in
-    ap Refused c.refuse-then-align-eq0.ensures ∙ sym (alone-none a.c (omega arith) if1.false if2.false
-    (sym c.align.ensures ∙ c.if-align-eq0.true))
-
-pub returns : goal.returns
-returns c =
-    let a = c.args in
-    let if1 = c.if-c-eq97 in
-    sym (alone-type a.c (omega arith) if1.false c.if-c-eq40.false (λ e. c.if-align-eq0.false (c.align.ensures ∙ e)))
+pub returns-else-is_basic : goal.returns-else-is_basic
+returns-else-is_basic c =
+    elim c.if-c-eq118.branch [
+      | then-c-eq118 w ↦ absurd (false≢true (sym c.if-is_basic.false ∙ w.value-is ∙ eq-eqb _ 118 w.if-c-eq118.true))
+      | else-c-eq118 w ↦
+          ap Err c.refuse.ensures ∙ sym (alone-none _ (omega arith) w.if-c-eq118.false (sym w.is_basic.ensures ∙ sym w.value-is ∙ c.if-is_basic.false))
+    ]

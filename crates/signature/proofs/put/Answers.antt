@@ -4,57 +4,38 @@ use borrow.Author.Rules.{rules}
 use Rattle.signature.proofs.MarkLaws.{unarray, put-floor, put-empty, put-fields, put-value, put-none}
 use Rattle.signature.proofs.put.Goals as goal
 
-pub loop-top-init : goal.loop-top-init
-loop-top-init c = (search rules, λ x w. w)
-
-pub bounds-marks-top : goal.bounds-marks-top
-bounds-marks-top c = omega (arith, c.requires.room)
-
 pub overflow_sub-top : goal.overflow_sub-top
-overflow_sub-top c = (unarray (c.loop-top.invariant.1 _ c.requires.whole) c.loop-top-test.true).above
+overflow_sub-top c = (unarray (c.loop-top.invariant.1 _ c.requires.whole) (search (rules, c.loop-top-test.ensures))).above
 
 pub overflow_sub-arrays : goal.overflow_sub-arrays
-overflow_sub-arrays c = (unarray (c.loop-top.invariant.1 _ c.requires.whole) c.loop-top-test.true).inside
+overflow_sub-arrays c = (unarray (c.loop-top.invariant.1 _ c.requires.whole) (search (rules, c.loop-top-test.ensures))).inside
 
 pub loop-top-smaller : goal.loop-top-smaller
-loop-top-smaller c = omega (arith, (unarray (c.loop-top.invariant.1 _ c.requires.whole) c.loop-top-test.true).above)
+loop-top-smaller c = omega (arith, (unarray (c.loop-top.invariant.1 _ c.requires.whole) (search (rules, c.loop-top-test.ensures))).above)
 
 pub loop-top-preserved : goal.loop-top-preserved
-loop-top-preserved c = (omega arith, λ x w. (unarray (c.loop-top.invariant.1 x w) c.loop-top-test.true).whole)
+loop-top-preserved c = (omega arith, λ x w. (unarray (c.loop-top.invariant.1 x w) (search (rules, c.loop-top-test.ensures))).whole)
 
-pub bounds-marks-top-2 : goal.bounds-marks-top-2
-bounds-marks-top-2 c = omega (arith, c.requires.room)
+pub returns-in-Floor : goal.returns-in-Floor
+returns-in-Floor c = λ x w. put-floor _ (c.loop-top.invariant.1 x w) c.in-Floor.is (omega arith)
 
-pub overflow_add-state : goal.overflow_add-state
-overflow_add-state c = omega (arith, c.requires.room)
-
-pub returns-then-mark-eq-FLOOR : goal.returns-then-mark-eq-FLOOR
-returns-then-mark-eq-FLOOR c = λ x w. put-floor _ (c.loop-top.invariant.1 x w) c.if-mark-eq-FLOOR.true (omega arith)
-
-pub bounds-marks-top-then-mark-eq-EMPTY : goal.bounds-marks-top-then-mark-eq-EMPTY
-bounds-marks-top-then-mark-eq-EMPTY c = omega (arith, c.requires.room)
-
-pub returns-then-mark-eq-EMPTY : goal.returns-then-mark-eq-EMPTY
-returns-then-mark-eq-EMPTY c =
+pub returns-in-Empty : goal.returns-in-Empty
+returns-in-Empty c =
     let asked = c.requires in
     let the-loop = c.loop-top in
-    λ x w. put-empty _ (the-loop.invariant.1 x w) c.if-mark-eq-EMPTY.true (omega (arith, asked.room)) (omega arith)
+    λ x w. put-empty _ (the-loop.invariant.1 x w) c.in-Empty.is (omega (arith, asked.room)) (omega arith)
 
-pub returns-then-mark-eq-FIELDS : goal.returns-then-mark-eq-FIELDS
-returns-then-mark-eq-FIELDS c = λ x w. put-fields _ (c.loop-top.invariant.1 x w) c.if-mark-eq-FIELDS.true (omega arith)
+pub returns-in-Fields : goal.returns-in-Fields
+returns-in-Fields c = λ x w. put-fields _ (c.loop-top.invariant.1 x w) c.in-Fields.is (omega arith)
 
-pub bounds-marks-top-then-mark-eq-VALUE : goal.bounds-marks-top-then-mark-eq-VALUE
-bounds-marks-top-then-mark-eq-VALUE c = omega (arith, c.requires.room)
-
-pub returns-then-mark-eq-VALUE : goal.returns-then-mark-eq-VALUE
-returns-then-mark-eq-VALUE c =
+pub returns-in-Value : goal.returns-in-Value
+returns-in-Value c =
     let asked = c.requires in
     let the-loop = c.loop-top in
-    λ x w. put-value _ (the-loop.invariant.1 x w) c.if-mark-eq-VALUE.true (omega (arith, asked.room)) (omega arith)
+    λ x w. put-value _ (the-loop.invariant.1 x w) c.in-Value.is (omega (arith, asked.room)) (omega arith)
 
-pub returns : goal.returns
-returns c =
-    let the-loop = c.loop-top in
-    let if1 = c.loop-top-test in
-    let if2 = c.if-mark-eq-FLOOR in
-    λ x w. put-none _ (the-loop.invariant.1 x w) if2.false c.if-mark-eq-EMPTY.false c.if-mark-eq-FIELDS.false c.if-mark-eq-VALUE.false if1.false
+pub returns-in_default : goal.returns-in_default
+returns-in_default c =
+    let none = c.in_default in
+    λ x w. put-none _ (c.loop-top.invariant.1 x w) none.not-Floor none.not-Empty none.not-Fields none.not-Value
+    (search (rules, c.loop-top-test.ensures))

@@ -1,21 +1,12 @@
 -- Both loops keep how many bytes are left of the type, counting brackets; a type spelled there ends after that many.
-use mathlib.Core.Path.{refl, sym, ◌∙◌}
+use mathlib.Core.Path.{sym, ◌∙◌}
 use native.Mathlib.Omega.{arith}
 use lib.ListN.{drop, get_or}
 use Rattle.signature.proofs.EndLaws.{scan, ends_at, first-within, next-within, end-array, end-first, end-next, stopped, bracket-one}
 use Rattle.signature.proofs.skip.Goals as goal
 
-pub loop-i-init : goal.loop-i-init
-loop-i-init c = refl
-
 pub bounds-sig-i : goal.bounds-sig-i
 bounds-sig-i c = first-within c.requires c.loop-i.i c.loop-i.invariant
-
-pub overflow_add-i : goal.overflow_add-i
-overflow_add-i c = omega (arith, first-within c.requires c.loop-i.i c.loop-i.invariant)
-
-pub loop-i-smaller : goal.loop-i-smaller
-loop-i-smaller c = omega (arith, first-within c.requires c.loop-i.i c.loop-i.invariant)
 
 pub loop-i-preserved : goal.loop-i-preserved
 loop-i-preserved c =

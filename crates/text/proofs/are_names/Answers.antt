@@ -1,53 +1,41 @@
--- The loop's invariant: what is left, and whether a slash came last, decides.
+-- Each byte takes the rule on by one step, by its class.
 use Prim.Native.Nat.{ℕ}
 use mathlib.Core.List.{List}
-use mathlib.Core.Path.{refl, sym, ◌∙◌}
+use mathlib.Core.Logic.{inl, inr}
+use mathlib.Core.Path.{sym, ◌∙◌}
 use native.Mathlib.Omega.{arith}
 use lib.ListN.{get_or}
 use Rattle.text.proofs.Classes.{classes, said}
 use Rattle.text.proofs.Names.{name-on, slash-on, slash-twice, other-stop, names-end}
 use Rattle.text.proofs.are_names.Goals as goal
-use Rattle.text.proofs.are_names.Goals.{then-class-eq3, else-class-eq3+else-class-ne2+else-after_slash}
+use Rattle.text.proofs.are_names.Goals.{then-eq, else-eq+then-eq-2+then-not-after_slash}
 
-pub loop-i-init : goal.loop-i-init
-loop-i-init c = (omega arith, refl)
-
-pub overflow_cast-class : goal.overflow_cast-class
-overflow_cast-class c = omega (arith, c.type_inv.s c.loop-i.i)
-
-pub bounds-classes-s : goal.bounds-classes-s
-bounds-classes-s c = omega (arith, c.type_inv.s c.loop-i.i)
-
-pub returns-then-class-ne2 : goal.returns-then-class-ne2
+pub returns-else-eq-2 : goal.returns-else-eq-2
 unfolding classes
-returns-then-class-ne2 c =
-    let loop = c.loop-i in
-    let loop-test = c.loop-i-test in
-    sym (other-stop _ _ loop-test.true _ _ loop.invariant.1 _ (said _ (omega (arith, c.type_inv.s loop.i)))
-    c.if-class-eq3.false c.if-class-ne2.true)
-
-pub returns-then-after_slash : goal.returns-then-after_slash
-unfolding classes
-returns-then-after_slash c =
-    let loop = c.loop-i in
-    let loop-test = c.loop-i-test in
-    sym (slash-twice _ _ loop-test.true _ _ loop.invariant.1 _ (said _ (omega (arith, c.type_inv.s loop.i))) c.if-class-ne2.false
-    c.if-after_slash.true)
-
-pub loop-i-preserved : goal.loop-i-preserved
-unfolding classes
-loop-i-preserved c =
+returns-else-eq-2 c =
     let s : List ℕ = c.args.s.now in
-    let i : ℕ = c.loop-i.i in
+    let i : ℕ = c.loop-b.b-index in
     let y = said (get_or s i 0) (omega (arith, c.type_inv.s i)) in
-    let h = c.loop-i-test.true in
-    let e = c.loop-i.invariant.1 in (
-      omega arith,
-      elim c.if-class-eq3.branch [
-        | then-class-eq3 w ↦ rw w.after_slash-is (name-on s i h _ _ e _ y w.if-class-eq3.true)
-        | else-class-eq3+else-class-ne2+else-after_slash w ↦ rw w.after_slash-is (slash-on s i h _ _ e _ y w.if-class-ne2.false w.if-after_slash.false)
-      ],
-    )
+    let h = c.loop-b-test.true in
+    let e = c.loop-b.invariant in
+    sym (elim c.else-eq-2.either [
+      | inl p ↦ slash-twice s i h _ _ e _ y (sym c.eq-else-eq.ensures ∙ p.0) p.1
+      | inr p ↦ other-stop s i h _ _ e _ y (sym c.eq.ensures ∙ c.if-eq.false) (sym c.eq-else-eq.ensures ∙ p)
+    ])
+
+pub loop-b-preserved : goal.loop-b-preserved
+unfolding classes
+loop-b-preserved c =
+    let s : List ℕ = c.args.s.now in
+    let i : ℕ = c.loop-b.b-index in
+    let y = said (get_or s i 0) (omega (arith, c.type_inv.s i)) in
+    let h = c.loop-b-test.true in
+    let e = c.loop-b.invariant in
+    elim c.if-eq.branch [
+      | then-eq w ↦ rw w.after_slash-is (name-on s i h _ _ e _ y (sym c.eq.ensures ∙ w.if-eq.true))
+      | else-eq+then-eq-2+then-not-after_slash w ↦ rw w.after_slash-is
+          (slash-on s i h _ _ e _ y (sym w.eq-else-eq.ensures ∙ w.if-eq-2.true) w.if-not-after_slash.true)
+    ]
 
 pub returns : goal.returns
-returns c = sym (c.loop-i.invariant.1 ∙ names-end _ _ _ c.loop-i-test.false)
+returns c = sym (c.loop-b.invariant ∙ names-end _ _ _ c.loop-b-test.false)

@@ -1,46 +1,64 @@
--- In each branch the class is known, and with it what `lead` says of every byte that has it.
-use mathlib.Core.Path.{refl, ap}
-use borrow.Author.Tests.{lt-ltb, le-ltb, ne_eqb}
+-- In each arm the class is known, and with it what `lead` says of every byte that has it.
+use mathlib.Core.Bool.{true, false}
+use mathlib.Core.Path.{◌≡◌, refl, ap, sym, ◌∙◌}
 use Rattle.meaning.specs.Text.{follow, no_lead}
-use Rattle.text.specs.declared.Step.TheVariants.{Wrong}
-use Rattle.text.proofs.Classes.{lead_of}
+use Rattle.std.specs.Prelude.{None}
+use Rattle.text.specs.declared.Class.{Class}
+use Rattle.text.specs.declared.Class.TheVariants.{Zero, Plain, Slash, Name, Never, Two, LowThree, Three, SurThree, LowFour, Four, TopFour}
+use Rattle.text.proofs.Classes.{lead_of, leads_ascii}
 use Rattle.text.proofs.Scans.{by-class}
 use Rattle.text.proofs.first.Goals as goal
+use Rattle.text.proofs.first.Goals.{in-Zero, in_default}
 
-pub returns-then-class-lt4 : goal.returns-then-class-lt4
-returns-then-class-lt4 c = by-class c.args.class (follow 0 0 0) c.asks.result (simp (lt-ltb _ _ c.if-class-lt4.true)) c.asks.ensures
+-- the class that is none of the others
+never : (k : Class) → (k ≡ Zero → ⊥) → (k ≡ Plain → ⊥) → (k ≡ Slash → ⊥) → (k ≡ Name → ⊥)
+    → (k ≡ Two → ⊥) → (k ≡ LowThree → ⊥) → (k ≡ Three → ⊥) → (k ≡ SurThree → ⊥) → (k ≡ LowFour → ⊥) → (k ≡ Four → ⊥) → (k ≡ TopFour → ⊥) → lead_of k ≡ no_lead
+never Zero n _ _ _ _ _ _ _ _ _ _ = absurd (n refl)
+never Plain _ n _ _ _ _ _ _ _ _ _ = absurd (n refl)
+never Slash _ _ n _ _ _ _ _ _ _ _ = absurd (n refl)
+never Name _ _ _ n _ _ _ _ _ _ _ = absurd (n refl)
+never Two _ _ _ _ n _ _ _ _ _ _ = absurd (n refl)
+never LowThree _ _ _ _ _ n _ _ _ _ _ = absurd (n refl)
+never Three _ _ _ _ _ _ n _ _ _ _ = absurd (n refl)
+never SurThree _ _ _ _ _ _ _ n _ _ _ = absurd (n refl)
+never LowFour _ _ _ _ _ _ _ _ n _ _ = absurd (n refl)
+never Four _ _ _ _ _ _ _ _ _ n _ = absurd (n refl)
+never TopFour _ _ _ _ _ _ _ _ _ _ n = absurd (n refl)
+never Never _ _ _ _ _ _ _ _ _ _ _ = refl
 
-pub returns-else-class-eq11 : goal.returns-else-class-eq11
-returns-else-class-eq11 c =
-    let after5 = c in
-    let after3 = after5 in
-    let start = after3 in
-    let low = le-ltb _ _ start.if-class-lt4.false in
-    let not5 = ne_eqb _ _ after3.if-class-eq5.false in
-    let not6 = ne_eqb _ _ after3.if-class-eq6.false in
-    let not7 = ne_eqb _ _ after5.if-class-eq7.false in
-    let not8 = ne_eqb _ _ after5.if-class-eq8.false in
-    let not9 = ne_eqb _ _ c.if-class-eq9.false in
-    let not10 = ne_eqb _ _ c.if-class-eq10.false in
-    by-class start.args.class no_lead Wrong (simp (low, not5, not6, not7, not8, not9, not10, ne_eqb _ _ c.if-class-eq11.false)) (λ cs. refl)
+pub returns-then-matches : goal.returns-then-matches
+returns-then-matches c = by-class _ (follow 0 0 0) c.asks.result (elim c.match-matches.branch [
+  | in-Zero w ↦ leads_ascii _ w.in-Zero.is
+  | in_default w ↦ absurd (let e : false ≡ true = sym w.matches-is ∙ c.if-matches.true in cc)
+]) c.asks.ensures
 
-pub returns-then-class-eq5 : goal.returns-then-class-eq5
-returns-then-class-eq5 c = by-class _ (follow 1 0x80 0xbf) c.asks-then-class-eq5.result (ap lead_of c.if-class-eq5.true) c.asks-then-class-eq5.ensures
+pub returns-in-Two : goal.returns-in-Two
+returns-in-Two c = by-class _ (follow 1 0x80 0xbf) c.asks-in-Two.result (ap lead_of c.in-Two.is) c.asks-in-Two.ensures
 
-pub returns-then-class-eq6 : goal.returns-then-class-eq6
-returns-then-class-eq6 c = by-class _ (follow 2 0xa0 0xbf) c.asks-then-class-eq6.result (ap lead_of c.if-class-eq6.true) c.asks-then-class-eq6.ensures
+pub returns-in-LowThree : goal.returns-in-LowThree
+returns-in-LowThree c = by-class _ (follow 2 0xa0 0xbf) c.asks-in-LowThree.result (ap lead_of c.in-LowThree.is) c.asks-in-LowThree.ensures
 
-pub returns-then-class-eq7 : goal.returns-then-class-eq7
-returns-then-class-eq7 c = by-class _ (follow 2 0x80 0xbf) c.asks-then-class-eq7.result (ap lead_of c.if-class-eq7.true) c.asks-then-class-eq7.ensures
+pub returns-in-Three : goal.returns-in-Three
+returns-in-Three c = by-class _ (follow 2 0x80 0xbf) c.asks-in-Three.result (ap lead_of c.in-Three.is) c.asks-in-Three.ensures
 
-pub returns-then-class-eq8 : goal.returns-then-class-eq8
-returns-then-class-eq8 c = by-class _ (follow 2 0x80 0x9f) c.asks-then-class-eq8.result (ap lead_of c.if-class-eq8.true) c.asks-then-class-eq8.ensures
+pub returns-in-SurThree : goal.returns-in-SurThree
+returns-in-SurThree c = by-class _ (follow 2 0x80 0x9f) c.asks-in-SurThree.result (ap lead_of c.in-SurThree.is) c.asks-in-SurThree.ensures
 
-pub returns-then-class-eq9 : goal.returns-then-class-eq9
-returns-then-class-eq9 c = by-class _ (follow 3 0x90 0xbf) c.asks-then-class-eq9.result (ap lead_of c.if-class-eq9.true) c.asks-then-class-eq9.ensures
+pub returns-in-LowFour : goal.returns-in-LowFour
+returns-in-LowFour c = by-class _ (follow 3 0x90 0xbf) c.asks-in-LowFour.result (ap lead_of c.in-LowFour.is) c.asks-in-LowFour.ensures
 
-pub returns-then-class-eq10 : goal.returns-then-class-eq10
-returns-then-class-eq10 c = by-class _ (follow 3 0x80 0xbf) c.asks-then-class-eq10.result (ap lead_of c.if-class-eq10.true) c.asks-then-class-eq10.ensures
+pub returns-in-Four : goal.returns-in-Four
+returns-in-Four c = by-class _ (follow 3 0x80 0xbf) c.asks-in-Four.result (ap lead_of c.in-Four.is) c.asks-in-Four.ensures
 
-pub returns-then-class-eq11 : goal.returns-then-class-eq11
-returns-then-class-eq11 c = by-class _ (follow 3 0x80 0x8f) c.asks-then-class-eq11.result (ap lead_of c.if-class-eq11.true) c.asks-then-class-eq11.ensures
+pub returns-in-TopFour : goal.returns-in-TopFour
+returns-in-TopFour c = by-class _ (follow 3 0x80 0x8f) c.asks-in-TopFour.result (ap lead_of c.in-TopFour.is) c.asks-in-TopFour.ensures
+
+pub returns-in_default-class : goal.returns-in_default-class
+returns-in_default-class c =
+    let d = c.in_default-class in
+    by-class _ no_lead None (elim c.match-matches.branch [
+      | in-Zero w ↦ absurd (let e : true ≡ false = sym w.matches-is ∙ c.if-matches.false in cc)
+      | in_default w ↦
+          let a = w.in_default in
+          never _ a.not-Zero a.not-Plain a.not-Slash a.not-Name d.not-Two d.not-LowThree d.not-Three d.not-SurThree d.not-LowFour d.not-Four d.not-TopFour
+    ]) (λ cs. refl)

@@ -1,19 +1,25 @@
--- The tests are those of `is_path`, in its order.
-use mathlib.Core.Path.{◌∙◌}
-use Rattle.text.proofs.Names.{path-none, path-first, path-root, path-rest}
+-- The first byte and the length are what `is_path` looks at.
+use native.Mathlib.Omega.{arith}
+use Prim.Native.Nat.{ℕ}
+use mathlib.Core.Bool.{true}
+use mathlib.Core.List.{List}
+use mathlib.Core.Path.{ap, ◌∙◌}
+use Rattle.meaning.specs.Text.{names}
+use Rattle.std.proofs.lemmas.List.{take_rest}
+use Rattle.text.proofs.Names.{path-root, path-rest, path-empty, path-none}
 use Rattle.text.proofs.is_path.Goals as goal
 
-pub returns-then-s-eq0 : goal.returns-then-s-eq0
-returns-then-s-eq0 c = path-none _ c.if-s-eq0.true
+pub returns-in-47 : goal.returns-in-47
+returns-in-47 c = path-root _ (omega arith) (omega arith)
 
-pub returns-then-s-ne47 : goal.returns-then-s-ne47
-returns-then-s-ne47 c = path-first c.args.s.now c.if-s-ne47.true
+pub returns-in-47-2 : goal.returns-in-47-2
+returns-in-47-2 c = c.are_names.ensures ∙ ap (λ (l : List ℕ). names l true) (take_rest _ 1) ∙ path-rest _ (omega arith) (omega arith)
 
-pub returns-then-s-eq1 : goal.returns-then-s-eq1
-returns-then-s-eq1 c = path-root c.args.s.now c.if-s-ne47.false c.if-s-eq1.true
+pub returns-in_default : goal.returns-in_default
+returns-in_default c = path-empty _ (omega arith)
 
-pub returns : goal.returns
-returns c =
-    let a = c.args in
-    let if1 = c.if-s-eq0 in
-    c.are_names.ensures ∙ path-rest a.s.now c.if-s-ne47.false if1.false c.if-s-eq1.false
+pub returns-in_default-2 : goal.returns-in_default-2
+returns-in_default-2 c = path-none _ (λ e. omega arith)
+
+pub returns-in_default-3 : goal.returns-in_default-3
+returns-in_default-3 c = path-none _ (λ e. omega arith)

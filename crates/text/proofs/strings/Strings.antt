@@ -15,14 +15,12 @@ use Rattle.meaning.specs.Reader.{Res, got, fault, stop, R, ret, ◌>>=◌, ◌>>
 use Rattle.meaning.specs.ReadValue.{sized_r, read_text, read_path}
 use Rattle.meaning.specs.declared.Order.{Order}
 use Rattle.meaning.specs.declared.Place.{Place}
-use Rattle.meaning.specs.declared.Reached.TheVariants.{At, Refused}
+use Rattle.std.specs.Prelude.{Ok, Err}
 use Rattle.meaning.specs.declared.Refusal.{Refusal}
 use Rattle.meaning.specs.declared.Fault.TheVariants.{NotEnoughBytes, InvalidUtf8, StringContainsNullByte, MissingTerminator, InvalidObjectPath}
 use Rattle.meaning.proofs.Local.{bytes-yes, bytes-no, bind-got, bind-fault, ret_inv}
 use Rattle.meaning.proofs.Meets.{here-bind, check-bind-inv, bytes-bind-inv}
 use Rattle.meaning.proofs.ValueLocal.{read_text-local}
-use Rattle.util.specs.Entry.{Window}
-use Rattle.util.proofs.Windows.{seen}
 use Rattle.text.specs.Ends.{ends_at, zero_test}
 
 -- what follows the bytes: a text t, and the rest of them
@@ -32,37 +30,30 @@ judged test p t z = check (utf8 t) InvalidUtf8 p >> (check (test t) StringContai
 abbrev body : Order → (List ℕ → Bool) → ℕ → List ℕ → R (List ℕ)
 body o test p l = bytes (load o l + 1) p >>= λ s. judged test p (take (load o l) s) (drop (load o l) s)
 
-module _ (o : Order) (w : ℕ) (test : List ℕ → Bool) (b : List ℕ) (end off : ℕ) (held : end ≤ length b) where
-  abbrev seen_b : List ℕ
-  seen_b = take end b
-
-  full : length seen_b ≡ end
-  full = length-take-le end b held
-
+module _ (o : Order) (w : ℕ) (test : List ℕ → Bool) (b : List ℕ) (off : ℕ) where
   -- 2 for the length field
-  pub no_field : off ≤ end → end - off < w → (x : Refusal) → x ≡ refusal NotEnoughBytes off → Refused x ≡ reached_of (sized_r o w test seen_b off)
+  pub no_field : off ≤ length b → length b - off < w → (x : Refusal) → x ≡ refusal NotEnoughBytes off → Err x ≡ reached_of (sized_r o w test b off)
   unfolding sized_r
   no_field i h x e =
-      let k : length seen_b < off + w = rw full (omega arith) in
-      ap Refused e
-      ∙ sym (ap reached_of (here-bind (λ p. bytes w p >>= body o test p) seen_b off ∙ bind-fault (bytes w off) (body o test off) seen_b off _ (bytes-no w off seen_b off k)))
+      let k : length b < off + w = omega arith in
+      ap Err e
+      ∙ sym (ap reached_of (here-bind (λ p. bytes w p >>= body o test p) b off ∙ bind-fault (bytes w off) (body o test off) b off _ (bytes-no w off b off k)))
 
-  module _ (field : off + w ≤ end) (n : ℕ) (says : n ≡ load o (take w (drop off b))) where
-    at_body : sized_r o w test seen_b off ≡ (bytes (n + 1) off >>= λ s. judged test off (take n s) (drop n s)) seen_b (off + w)
+  module _ (field : off + w ≤ length b) (n : ℕ) (says : n ≡ load o (take w (drop off b))) where
+    at_body : sized_r o w test b off ≡ (bytes (n + 1) off >>= λ s. judged test off (take n s) (drop n s)) b (off + w)
     unfolding sized_r
     at_body =
-        let k : off + w ≤ length seen_b = rw full field in
-        let q : load o (take w (drop off seen_b)) ≡ n = ap (load o) (seen b end off w field held) ∙ sym says in
-        here-bind (λ p. bytes w p >>= body o test p) seen_b off
-        ∙ bind-got (bytes w off) (body o test off) seen_b off _ _ (bytes-yes w off seen_b off k)
-        ∙ ap (λ (m : ℕ). (bytes (m + 1) off >>= λ s. judged test off (take m s) (drop m s)) seen_b (off + w)) q
+        let k : off + w ≤ length b = field in
+        here-bind (λ p. bytes w p >>= body o test p) b off
+        ∙ bind-got (bytes w off) (body o test off) b off _ _ (bytes-yes w off b off k)
+        ∙ ap (λ (m : ℕ). (bytes (m + 1) off >>= λ s. judged test off (take m s) (drop m s)) b (off + w)) (sym says)
 
     -- 2 for the length and the bytes that go with it
-    pub no_room : end - (off + w) ≤ n → (x : Refusal) → x ≡ refusal NotEnoughBytes off → Refused x ≡ reached_of (sized_r o w test seen_b off)
+    pub no_room : length b - (off + w) ≤ n → (x : Refusal) → x ≡ refusal NotEnoughBytes off → Err x ≡ reached_of (sized_r o w test b off)
     no_room h x e =
-        let k : length seen_b < off + w + (n + 1) = rw full (omega arith) in
-        ap Refused e
-        ∙ sym (ap reached_of (at_body ∙ bind-fault (bytes (n + 1) off) (λ s. judged test off (take n s) (drop n s)) seen_b (off + w) _ (bytes-no (n + 1) off seen_b (off + w) k)))
+        let k : length b < off + w + (n + 1) = omega arith in
+        ap Err e
+        ∙ sym (ap reached_of (at_body ∙ bind-fault (bytes (n + 1) off) (λ s. judged test off (take n s) (drop n s)) b (off + w) _ (bytes-no (n + 1) off b (off + w) k)))
 
     -- the text, as the code cuts it out
     abbrev part : List ℕ
@@ -74,47 +65,46 @@ module _ (o : Order) (w : ℕ) (test : List ℕ → Bool) (b : List ℕ) (end of
     part-is : part ≡ take n (drop (off + w) b)
     part-is = let m : off + w + n - (off + w) ≡ n = omega arith in rw m
 
-    module _ (room : n < end - (off + w)) where
+    module _ (room : n < length b - (off + w)) where
       ends_with : drop n (take (n + 1) (drop (off + w) b)) ≡ last ∷ []
       ends_with =
           let k : n < length (drop (off + w) b) = rw length-drop (omega arith) in
           rw (add-one, take-suc (drop (off + w) b) n 0 k, get_or-drop)
           (drop_at (take n (drop (off + w) b)) (last ∷ []) n (length-take-le n (drop (off + w) b) (omega arith)))
 
-      at-judged : sized_r o w test seen_b off ≡ judged test off part (last ∷ []) seen_b (off + w + (n + 1))
+      at-judged : sized_r o w test b off ≡ judged test off part (last ∷ []) b (off + w + (n + 1))
       at-judged =
-          let k : off + w + (n + 1) ≤ length seen_b = rw full (omega arith) in
+          let k : off + w + (n + 1) ≤ length b = omega arith in
           at_body
-          ∙ bind-got (bytes (n + 1) off) (λ s. judged test off (take n s) (drop n s)) seen_b (off + w) _ _ (bytes-yes (n + 1) off seen_b (off + w) k)
-          ∙ ap (λ (s : List ℕ). judged test off (take n s) (drop n s) seen_b (off + w + (n + 1))) (seen b end (off + w) (n + 1) (omega arith) held)
-          ∙ ap (λ (t : List ℕ). judged test off t (drop n (take (n + 1) (drop (off + w) b))) seen_b (off + w + (n + 1))) (take-take n (n + 1) (drop (off + w) b) (omega arith) ∙ sym part-is)
-          ∙ ap (λ (z : List ℕ). judged test off part z seen_b (off + w + (n + 1))) ends_with
+          ∙ bind-got (bytes (n + 1) off) (λ s. judged test off (take n s) (drop n s)) b (off + w) _ _ (bytes-yes (n + 1) off b (off + w) k)
+          ∙ ap (λ (t : List ℕ). judged test off t (drop n (take (n + 1) (drop (off + w) b))) b (off + w + (n + 1))) (take-take n (n + 1) (drop (off + w) b) (omega arith) ∙ sym part-is)
+          ∙ ap (λ (z : List ℕ). judged test off part z b (off + w + (n + 1))) ends_with
 
-      pub no-utf8 : utf8 part ≡ false → (x : Refusal) → x ≡ refusal InvalidUtf8 off → Refused x ≡ reached_of (sized_r o w test seen_b off)
+      pub no-utf8 : utf8 part ≡ false → (x : Refusal) → x ≡ refusal InvalidUtf8 off → Err x ≡ reached_of (sized_r o w test b off)
       unfolding check ◌>>=◌
       no-utf8 h x e =
-          let q : judged test off part (last ∷ []) seen_b (off + w + (n + 1)) ≡ stop InvalidUtf8 off = rw h in
-          ap Refused e ∙ sym (ap reached_of (at-judged ∙ q))
+          let q : judged test off part (last ∷ []) b (off + w + (n + 1)) ≡ stop InvalidUtf8 off = rw h in
+          ap Err e ∙ sym (ap reached_of (at-judged ∙ q))
 
-      pub null-byte : utf8 part ≡ true → test part ≡ false → (x : Refusal) → x ≡ refusal StringContainsNullByte off → Refused x ≡ reached_of (sized_r o w test seen_b off)
+      pub null-byte : utf8 part ≡ true → test part ≡ false → (x : Refusal) → x ≡ refusal StringContainsNullByte off → Err x ≡ reached_of (sized_r o w test b off)
       unfolding check ◌>>=◌
       null-byte h k x e =
-          let q : judged test off part (last ∷ []) seen_b (off + w + (n + 1)) ≡ stop StringContainsNullByte off = rw (h, k) in
-          ap Refused e ∙ sym (ap reached_of (at-judged ∙ q))
+          let q : judged test off part (last ∷ []) b (off + w + (n + 1)) ≡ stop StringContainsNullByte off = rw (h, k) in
+          ap Err e ∙ sym (ap reached_of (at-judged ∙ q))
 
-      pub well : utf8 part ≡ true → test part ≡ true → ends_at last (off + w + n) off ≡ reached_of (sized_r o w test seen_b off)
+      pub well : utf8 part ≡ true → test part ≡ true → ends_at last (off + w + n) off ≡ reached_of (sized_r o w test b off)
       unfolding check ◌>>=◌ zeros ret
       well h k = go (eqb last 0) refl
         where
           m : off + w + (n + 1) ≡ off + w + n + 1
           m = omega arith
 
-          go : (q : Bool) → eqb last 0 ≡ q → ends_at last (off + w + n) off ≡ reached_of (sized_r o w test seen_b off)
+          go : (q : Bool) → eqb last 0 ≡ q → ends_at last (off + w + n) off ≡ reached_of (sized_r o w test b off)
           go true z =
-              let q : judged test off part (last ∷ []) seen_b (off + w + (n + 1)) ≡ got part (off + w + n + 1) = rw (h, k, z, m) in
+              let q : judged test off part (last ∷ []) b (off + w + (n + 1)) ≡ got part (off + w + n + 1) = rw (h, k, z, m) in
               rw z (sym (ap reached_of (at-judged ∙ q)))
           go false z =
-              let q : judged test off part (last ∷ []) seen_b (off + w + (n + 1)) ≡ stop MissingTerminator off = rw (h, k, z) in
+              let q : judged test off part (last ∷ []) b (off + w + (n + 1)) ≡ stop MissingTerminator off = rw (h, k, z) in
               rw z (sym (ap reached_of (at-judged ∙ q)))
 
 -- what an accepted text is: the bytes after its length field, up to the one before its end
@@ -136,55 +126,54 @@ text-part o w test b off v e q =
     (omega (arith, r.1, j.4.end, j.2), sym r.0 ∙ t ∙ rw (m, vl))
 
 -- an object path: the string's own answer, and then the rule
-module _ (o : Order) (b : List ℕ) (end off : ℕ) (w : Window b end off) where
+module _ (o : Order) (b : List ℕ) (off : ℕ) (w : off ≤ length b) where
   abbrev then-path : List ℕ → R (List ℕ)
   then-path s = check (is_path s) InvalidObjectPath off >> ret s
 
-  by-string : read_path o (take end b) off ≡ (read_text o >>= then-path) (take end b) off
+  by-string : read_path o b off ≡ (read_text o >>= then-path) b off
   unfolding read_path
-  by-string = here-bind (λ p. read_text o >>= λ s. check (is_path s) InvalidObjectPath p >> ret s) (take end b) off
+  by-string = here-bind (λ p. read_text o >>= λ s. check (is_path s) InvalidObjectPath p >> ret s) b off
 
   pub record Cut (p : Place) : Type 0 where
     pub after : off + 5 ≤ p.0
-    pub before : p.0 ≤ end
-    pub text : read_text o (take end b) off ≡ got (take (p.0 - 1 - (off + 4)) (drop (off + 4) b)) p.0
+    pub before : p.0 ≤ length b
+    pub text : read_text o b off ≡ got (take (p.0 - 1 - (off + 4)) (drop (off + 4) b)) p.0
 
-  pub cut : (p : Place) → At p ≡ reached_of (read_text o (take end b) off) → Cut p
+  pub cut : (p : Place) → Ok p ≡ reached_of (read_text o b off) → Cut p
   unfolding read_text
-  cut p e = go (read_text o (take end b) off) refl
+  cut p e = go (read_text o b off) refl
     where
-      go : (x : Res (List ℕ)) → read_text o (take end b) off ≡ x → Cut p
+      go : (x : Res (List ℕ)) → read_text o b off ≡ x → Cut p
       go (got v m) q =
-          let z : p.0 ≡ m = let f : At p ≡ At (record { 0 = m }) = e ∙ ap reached_of q in cc in
-          let l : length (take end b) ≡ end = length-take-le end b w.held in
-          let g = (read_text-local o).bound (take end b) off v m (rw l w.inside) q in
-          let t = text-part o 4 no_zero (take end b) off v m q in
+          let z : p.0 ≡ m = let f : Ok p ≡ Ok (record { 0 = m }) = e ∙ ap reached_of q in cc in
+          let g = (read_text-local o).bound b off v m w q in
+          let t = text-part o 4 no_zero b off v m q in
           let n : length v ≡ p.0 - 1 - (off + 4) = omega arith in
-          let i : v ≡ take (p.0 - 1 - (off + 4)) (drop (off + 4) b) = t.1 ∙ seen b end (off + 4) (length v) (omega arith) w.held ∙ rw n in
+          let i : v ≡ take (p.0 - 1 - (off + 4)) (drop (off + 4) b) = t.1 ∙ rw n in
           record { after = omega arith; before = omega arith; text = rw (← i, z) q }
-      go (fault x) q = absurd (let f : At p ≡ Refused x = e ∙ ap reached_of q in let z : ◌≡◌ {A = ℕ} 0 1 = cc in omega arith)
+      go (fault x) q = absurd (let f : Ok p ≡ Err x = e ∙ ap reached_of q in let z : ◌≡◌ {A = ℕ} 0 1 = cc in omega arith)
 
-  pub is-a-path : (p : Place) → Cut p → true ≡ is_path (take (p.0 - 1 - (off + 4)) (drop (off + 4) b)) → At (record { 0 = p.0 }) ≡ reached_of (read_path o (take end b) off)
+  pub is-a-path : (p : Place) → Cut p → true ≡ is_path (take (p.0 - 1 - (off + 4)) (drop (off + 4) b)) → Ok (record { 0 = p.0 }) ≡ reached_of (read_path o b off)
   unfolding check ◌>>=◌ ret
   is-a-path p k h =
       let t : List ℕ = take (p.0 - 1 - (off + 4)) (drop (off + 4) b) in
-      let q : then-path t (take end b) p.0 ≡ got t p.0 = rw (← h) in
-      sym (ap reached_of (by-string ∙ bind-got (read_text o) then-path (take end b) off t p.0 k.text ∙ q))
+      let q : then-path t b p.0 ≡ got t p.0 = rw (← h) in
+      sym (ap reached_of (by-string ∙ bind-got (read_text o) then-path b off t p.0 k.text ∙ q))
 
   pub no-path : (p : Place) → Cut p → false ≡ is_path (take (p.0 - 1 - (off + 4)) (drop (off + 4) b)) → (x : Refusal) → x ≡ refusal InvalidObjectPath off
-      → Refused x ≡ reached_of (read_path o (take end b) off)
+      → Err x ≡ reached_of (read_path o b off)
   unfolding check ◌>>=◌ ret
   no-path p k h x e =
       let t : List ℕ = take (p.0 - 1 - (off + 4)) (drop (off + 4) b) in
-      let q : then-path t (take end b) p.0 ≡ stop InvalidObjectPath off = rw (← h) in
-      ap Refused e ∙ sym (ap reached_of (by-string ∙ bind-got (read_text o) then-path (take end b) off t p.0 k.text ∙ q))
+      let q : then-path t b p.0 ≡ stop InvalidObjectPath off = rw (← h) in
+      ap Err e ∙ sym (ap reached_of (by-string ∙ bind-got (read_text o) then-path b off t p.0 k.text ∙ q))
 
-  pub no-string : (x : Refusal) → Refused x ≡ reached_of (read_text o (take end b) off) → Refused x ≡ reached_of (read_path o (take end b) off)
-  no-string x e = go (read_text o (take end b) off) refl
+  pub no-string : (x : Refusal) → Err x ≡ reached_of (read_text o b off) → Err x ≡ reached_of (read_path o b off)
+  no-string x e = go (read_text o b off) refl
     where
-      go : (y : Res (List ℕ)) → read_text o (take end b) off ≡ y → Refused x ≡ reached_of (read_path o (take end b) off)
-      go (got v m) q = absurd (let f : Refused x ≡ At (record { 0 = m }) = e ∙ ap reached_of q in let z : ◌≡◌ {A = ℕ} 0 1 = cc in omega arith)
-      go (fault y) q = (e ∙ ap reached_of q) ∙ sym (ap reached_of (by-string ∙ bind-fault (read_text o) then-path (take end b) off y q))
+      go : (y : Res (List ℕ)) → read_text o b off ≡ y → Err x ≡ reached_of (read_path o b off)
+      go (got v m) q = absurd (let f : Err x ≡ Ok (record { 0 = m }) = e ∙ ap reached_of q in let z : ◌≡◌ {A = ℕ} 0 1 = cc in omega arith)
+      go (fault y) q = (e ∙ ap reached_of q) ∙ sym (ap reached_of (by-string ∙ bind-fault (read_text o) then-path b off y q))
 
 -- zeros are no fault where they are allowed
 pub lax-fine : (lax : Bool) (s : List ℕ) → no_zero s ≡ true → zero_test lax s ≡ true

@@ -3,7 +3,7 @@ use Prim.Native.Nat.{ℕ}
 use mathlib.Core.List.{List}
 use mathlib.Core.Path.{◌≡◌, ap, sym}
 use Rattle.meaning.specs.declared.Refusal.{Refusal}
-use Rattle.meaning.specs.declared.HeaderRead.TheVariants.{Refused}
+use Rattle.std.specs.Prelude.{Err}
 use Rattle.meaning.specs.declared.Fault.TheVariants.{InvalidHeaderFields}
 use Rattle.meaning.specs.Faults.{moved}
 use Rattle.meaning.specs.Signature.{parse}
@@ -28,7 +28,7 @@ body_then h = inside h.0.1 (body_r h.0.0.order h.1.1) >>= λ vs. ret (message_of
 
 module _ (b : List ℕ) where
   -- "Faults before the body's values have position 0"
-  pub not_opened : (x y : Refusal) → open_r b 0 ≡ fault x → y ≡ moved 0 x → Refused y ≡ read_header b
+  pub not_opened : (x y : Refusal) → open_r b 0 ≡ fault x → y ≡ moved 0 x → Err y ≡ read_header b
   unfolding read_header read_message at_zero
   not_opened x y h e =
       rw e (sym (ap header_from (bind-fault (at_zero open_r) body_then b 0 (moved 0 x) (ap to_zero h))))

@@ -8,7 +8,7 @@ use lib.Seq.{take-length}
 use lib.Dec.{T}
 use Rattle.meaning.specs.declared.Order.{Order}
 use Rattle.meaning.specs.declared.Refusal.{Refusal}
-use Rattle.meaning.specs.declared.Reached.TheVariants.{At, Refused}
+use Rattle.std.specs.Prelude.{Result, Ok, Err}
 use Rattle.meaning.specs.declared.Fault.TheVariants.{BodyLeft}
 use Rattle.meaning.specs.Faults.{refusal}
 use Rattle.meaning.specs.Types.{Ty, Value}
@@ -25,8 +25,6 @@ use Rattle.meaning.proofs.SignatureLaws.{parse-sound}
 use Rattle.meaning.proofs.Booleans.{and_left, and_right, and_both}
 use Rattle.meaning.proofs.PlaceLaws.{lies, spelled-split}
 use Rattle.validate_raw.specs.declared.walk.Spot.{Spot}
-use Rattle.validate_raw.specs.declared.walk.Walked.{Walked}
-use Rattle.validate_raw.specs.declared.walk.Walked.TheVariants as walked
 use Rattle.validate_raw.specs.Walk.{walked_of}
 use Rattle.validate_raw.proofs.walk.WalkLaws.{past-inv, stopped-inv, pair-fault, kept}
 use Rattle.unmarshal.specs.Body.{Types, TypesAt}
@@ -106,7 +104,7 @@ module _ (o : Order) (s b : List ℕ) (off : ℕ) where
           ap reached_of (bind-fault (pair_r (read_top o t) (values_r o us)) (close (t ∷ us)) b at x (first ∙ bind-fault (values_r o us) (λ y. ret (v, y)) b p x z))
           ∙ sym (ap reached_of (bind-fault (values_r o us) (close us) b p x z))
 
-  none : (t : Ty) (us : List Ty) (at : ℕ) (x : Refusal) → read_top o t b at ≡ fault x → reached_of (body_r o (t ∷ us) b at) ≡ Refused x
+  none : (t : Ty) (us : List Ty) (at : ℕ) (x : Refusal) → read_top o t b at ≡ fault x → reached_of (body_r o (t ∷ us) b at) ≡ Err x
   unfolding body_r values_r
   none t us at x q = ap reached_of (bind-fault (pair_r (read_top o t) (values_r o us)) (close (t ∷ us)) b at x (pair-fault (read_top o t) (values_r o us) b at x q))
 
@@ -121,12 +119,12 @@ module _ (o : Order) (s b : List ℕ) (off : ℕ) where
       same_next : (ts : List Ty) → parse s ≡ types ts → reached_of (body_r o ts b off) ≡ reached_of (body_r o (next.first ∷ next.others) b at)
       same_next ts q = h.same ts q ∙ ap (λ (us : List Ty). reached_of (body_r o us b at)) next.is
 
-      module _ (q : Walked) (walks : (t : Ty) (e : ℕ) → TypeAt t s i e → q ≡ walked_of e (read o (read_var o 16) t b at)) where
+      module _ (q : Result Spot Refusal) (walks : (t : Ty) (e : ℕ) → TypeAt t s i e → q ≡ walked_of e (read o (read_var o 16) t b at)) where
         answered : q ≡ walked_of next.middle (read_top o next.first b at)
         unfolding read_top
         answered = walks next.first next.middle next.here
 
-        pub left-past : (x : Spot) → at ≤ length b → q ≡ walked.Past x
+        pub left-past : (x : Spot) → at ≤ length b → q ≡ Ok x
             → (i < x.sig.0) × (x.sig.0 ≤ length s) × (at ≤ x.buf.0) × (x.buf.0 ≤ length b) × Left o s b off x.sig.0 x.buf.0
         left-past x k e =
             let p : ℕ = x.buf.0 in
@@ -144,7 +142,7 @@ module _ (o : Order) (s b : List ℕ) (off : ℕ) where
               },
             )
 
-        pub left-stop : (x : Refusal) → q ≡ walked.Refused x → (ts : List Ty) → parse s ≡ types ts → Refused x ≡ reached_of (body_r o ts b off)
+        pub left-stop : (x : Refusal) → q ≡ Err x → (ts : List Ty) → parse s ≡ types ts → Err x ≡ reached_of (body_r o ts b off)
         left-stop x e ts z =
             sym (same_next ts z ∙ none next.first next.others at x (stopped-inv next.middle x (read_top o next.first b at) (sym answered ∙ e)))
 
@@ -155,11 +153,11 @@ module _ (o : Order) (s b : List ℕ) (off : ℕ) where
           h.same ts z ∙ ap (λ (us : List Ty). reached_of (body_r o us b at)) (types-none h.tys s i h.stands l)
           ∙ ap reached_of (bind-got (ret tt) (close []) b at tt at refl) ∙ kept ended (λ u. tt) b at
 
-      pub left_over : (x : Refusal) → at < length b → x ≡ refusal BodyLeft at → Refused x ≡ reached_of (body_r o ts b off)
+      pub left_over : (x : Refusal) → at < length b → x ≡ refusal BodyLeft at → Err x ≡ reached_of (body_r o ts b off)
       unfolding ended
       left_over x k e =
           let z : ended b at ≡ stop BodyLeft at = rw (leb-false (length b) at k, ended) in
           rw e (sym (last ∙ ap reached_of z))
 
-      pub left-none : length b ≤ at → At (record { 0 = at }) ≡ reached_of (body_r o ts b off)
+      pub left-none : length b ≤ at → Ok (record { 0 = at }) ≡ reached_of (body_r o ts b off)
       left-none k = sym (last ∙ ap reached_of (ended-yes b at k))

@@ -4,17 +4,14 @@ use native.Mathlib.Omega.{arith}
 use mathlib.Core.List.{List, []}
 use mathlib.Core.Path.{◌≡◌, refl, ap, sym, subst, ◌∙◌}
 use lib.ListN.{length, take, drop}
-use lib.Seq.{take-length}
 use Rattle.meaning.specs.declared.Order.{Order}
 use Rattle.meaning.specs.declared.Refusal.{Refusal}
 use Rattle.meaning.specs.declared.Place.{Place}
-use Rattle.meaning.specs.declared.Reached.{Reached}
-use Rattle.meaning.specs.declared.Reached.TheVariants as reached
+use Rattle.std.specs.Prelude.{Result, Ok, Err}
 use Rattle.meaning.specs.declared.Entry.{Entry}
 use Rattle.meaning.specs.declared.Entry.TheVariants.{Absent, Number, Text}
 use Rattle.meaning.specs.declared.Fields.{Fields}
 use Rattle.meaning.specs.declared.Header.{Header}
-use Rattle.meaning.specs.declared.HeaderRead.TheVariants.{Read, Refused}
 use Rattle.meaning.specs.declared.Fault.TheVariants.{NotEnoughBytes, InvalidHeaderFields}
 use Rattle.meaning.specs.Faults.{refusal, moved}
 use Rattle.meaning.specs.Types.{Ty}
@@ -35,7 +32,7 @@ use Rattle.meaning.proofs.MessageLocal.{at_zero-got, fixed_r-local, table_r-loca
 use Rattle.meaning.proofs.MessageMeets.{table_rs, open-sound, body-sound}
 use Rattle.meaning.proofs.MessageDemands.{spelled-types}
 use Rattle.header.specs.declared.fixed_header.Start.{Start}
-use Rattle.unmarshal.specs.declared.body.Part.{Part}
+use Rattle.meaning.specs.declared.Part.{Part}
 use Rattle.header.specs.FixedHeader.{start_of}
 use Rattle.meaning.specs.Header.{fields_from}
 use Rattle.unmarshal.specs.Body.{Types, Held, part_of}
@@ -84,7 +81,7 @@ each_at b o fs e h =
     subst (λ (k : ℕ). At b k (each (enc_field o) fs 16) e) z i.1
 
 -- the padding before the body is what the code read from the table
-pub pads-to : {a : ℕ} (b : List ℕ) (end : ℕ) (r s : Reached) → a ≡ 8 → r ≡ reached_of (padding a b end) → r ≡ s → reached_of (padding 8 b end) ≡ s
+pub pads-to : {a : ℕ} (b : List ℕ) (end : ℕ) (r s : Result Place Refusal) → a ≡ 8 → r ≡ reached_of (padding a b end) → r ≡ s → reached_of (padding 8 b end) ≡ s
 pads-to b end r s e h k = sym (h ∙ ap (λ (x : ℕ). reached_of (padding x b end)) e) ∙ k
 
 module _ (b : List ℕ) (start : Start) (fields : Fields) (end : ℕ) (h : Held b start fields end) where
@@ -102,9 +99,9 @@ module _ (b : List ℕ) (start : Start) (fields : Fields) (end : ℕ) (h : Held 
       opens b h.head h.begins ∙ bind-got (table_r o) (after2 h.head) b 12 h.list end h.tabled
       ∙ check_bind (complete h.head.0.kind h.list) InvalidHeaderFields 0 (λ z. padding 8 >> after3 h.head h.list) b end h.whole
 
-  pub next-stop : (x y : Refusal) → reached_of (padding 8 (take (length b) b) end) ≡ reached.Refused x → y ≡ moved 0 x → Refused y ≡ read_header b
+  pub next-stop : (x y : Refusal) → reached_of (padding 8 b end) ≡ Err x → y ≡ moved 0 x → Err y ≡ read_header b
   next-stop x y q e =
-      let z : padding 8 b end ≡ fault x = refused-inv (padding 8 b end) x (ap (λ (c : List ℕ). reached_of (padding 8 c end)) (sym (take-length b)) ∙ q) in
+      let z : padding 8 b end ≡ fault x = refused-inv (padding 8 b end) x q in
       not_opened b x y (opened ∙ bind-fault (padding 8) (λ u. after3 h.head h.list) b end x z) e
 
   module _ (y : Bytes b) where
@@ -142,11 +139,11 @@ module _ (b : List ℕ) (start : Start) (fields : Fields) (end : ℕ) (h : Held 
       pub sig-types : Types (cut_by part b)
       sig-types = record { tys = tys; parsed = spells }
 
-      module _ (p : Place) (pads : reached_of (padding 8 (take (length b) b) end) ≡ reached.At p) where
+      module _ (p : Place) (pads : reached_of (padding 8 b end) ≡ Ok p) where
         whole : open_r b 0 ≡ got (h.head, (h.list, tys)) p.0
         unfolding ret
         whole =
-            let i = at-inv (padding 8 b end) p (ap (λ (c : List ℕ). reached_of (padding 8 c end)) (sym (take-length b)) ∙ pads) in
+            let i = at-inv (padding 8 b end) p pads in
             opened ∙ bind-got (padding 8) (λ u. after3 h.head h.list) b end i.0 p.0 i.1
             ∙ bind-got (accept (parse (body_signature h.list)) 0) (λ ts. ret (h.head, (h.list, ts))) b p.0 tys p.0
             (ap (λ (q : Parsed). accept q 0 b p.0) spelled.1 ∙ accept-got tys 0 b p.0)
@@ -161,27 +158,27 @@ module _ (b : List ℕ) (start : Start) (fields : Fields) (end : ℕ) (h : Held 
         unfolding read_message
         reads = bind-got (at_zero open_r) body_then b 0 (h.head, (h.list, tys)) p.0 (at_zero-got open_r b 0 (h.head, (h.list, tys)) p.0 whole)
 
-        pub body-over : (x : Refusal) → length b < p.0 + start.body.0 → x ≡ refusal NotEnoughBytes 0 → Refused x ≡ read_header b
+        pub body-over : (x : Refusal) → length b < p.0 + start.body.0 → x ≡ refusal NotEnoughBytes 0 → Err x ≡ read_header b
         unfolding read_header
         body-over x l e =
             rw e (sym (ap header_from (reads ∙ bind-fault (inside n (body_r o tys)) (λ vs. ret (message_of (h.head, (h.list, tys)) vs)) b p.0
             (refusal NotEnoughBytes 0) (window-no _ _ n (body_r o tys) b p.0 (omega (arith, size_is))))))
 
-        module _ (fits : p.0 + start.body.0 ≤ length b) (q : Reached)
+        module _ (fits : p.0 + start.body.0 ≤ length b) (q : Result Place Refusal)
             (answers : (ts : List Ty) → parse (cut_by part b) ≡ types ts → q ≡ reached_of (body_r start.order ts (take (p.0 + start.body.0) b) p.0)) where
           body_is : q ≡ reached_of (inside n (body_r o tys) b p.0)
           body_is =
               answers tys spells ∙ ap (λ (s : Start). reached_of (body_r s.order tys (take (p.0 + s.body.0) b) p.0)) h.starts
               ∙ sym (ap reached_of (window-yes _ _ n (body_r o tys) b p.0 (omega (arith, size_is))))
 
-          pub body_refused : (x : Refusal) → q ≡ reached.Refused x → Refused x ≡ read_header b
+          pub body_refused : (x : Refusal) → q ≡ Err x → Err x ≡ read_header b
           unfolding read_header
           body_refused x k =
               sym (ap header_from (reads ∙ bind-fault (inside n (body_r o tys)) (λ vs. ret (message_of (h.head, (h.list, tys)) vs)) b p.0 x
               (refused-inv (inside n (body_r o tys) b p.0) x (sym body_is ∙ k))))
 
-          pub body-read : (e : Place) → q ≡ reached.At e
-              → Read (header_by start fields p.0 (p.0 + start.body.0)) ≡ read_header b
+          pub body-read : (e : Place) → q ≡ Ok e
+              → Ok (header_by start fields p.0 (p.0 + start.body.0)) ≡ read_header b
           unfolding read_header ret
           body-read e k =
               let i = at-inv (inside n (body_r o tys) b p.0) e (sym body_is ∙ k) in
@@ -200,7 +197,7 @@ module _ (b : List ℕ) (start : Start) (fields : Fields) (end : ℕ) (h : Held 
             where
               made : (s : Start) (f : Fields) (p e : ℕ) (m : Message) (l : ℕ) → l ≡ e → p ≡ body_at m.fixed.order m.fields → s.body.0 ≡ length (body_of m)
                   → (hd : Fixed × ℕ) → s ≡ start_of hd → hd.0 ≡ m.fixed → f ≡ fields_from m.fixed.order m.fields 16
-                  → Read (header_by s f p l) ≡ Read (header_of m e)
+                  → ◌≡◌ {A = Result Header Refusal} (Ok (header_by s f p l)) (Ok (header_of m e))
               made s f p e m l w at size hd hs hf hk =
                   let a : s.order ≡ m.fixed.order = ap (λ (x : Start). x.order) hs ∙ ap (λ (x : Fixed). x.order) hf in
                   let k : s.kind ≡ m.fixed.kind = ap (λ (x : Start). x.kind) hs ∙ ap (λ (x : Fixed). x.kind) hf in

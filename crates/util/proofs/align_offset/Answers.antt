@@ -11,7 +11,7 @@ pub returns-then-buf-off : goal.returns-then-buf-off
 returns-then-buf-off c = outside _ _ _ c.if-buf-off.true _ c.refuse.ensures
 
 pub padded-requires : goal.padded-requires
-padded-requires c = record { window = record { inside = search rules; held = search rules }; alignment = rw (sym c.is_alignment.ensures ∙ c.if-is_alignment.true) tt }
+padded-requires c = record { inside = c.if-buf-off.false; alignment = rw (sym c.is_alignment.ensures ∙ c.if-not-is_alignment.false) tt }
 
 pub taken_from-requires : goal.taken_from-requires
 taken_from-requires c =
@@ -19,11 +19,11 @@ taken_from-requires c =
     let if1 = c.if-buf-off in
     entry_past (padding a.align) (padding-local a.align).bound a.buf.now a.offset.0 _ if1.false c.padded.ensures
 
-pub returns-then-is_alignment : goal.returns-then-is_alignment
-returns-then-is_alignment c =
+pub returns : goal.returns
+returns c =
     let if1 = c.if-buf-off in
     let is-alignment = c.is_alignment in
-    c.taken_from.ensures ∙ aligned _ _ _ _ if1.false (sym is-alignment.ensures ∙ c.if-is_alignment.true) c.padded.ensures
+    c.taken_from.ensures ∙ aligned _ _ _ _ if1.false (sym is-alignment.ensures ∙ c.if-not-is_alignment.false) c.padded.ensures
 
-pub returns-else-is_alignment : goal.returns-else-is_alignment
-returns-else-is_alignment c = no-alignment _ _ _ c.if-buf-off.false (sym c.is_alignment.ensures ∙ c.if-is_alignment.false) _ c.refuse-else-is_alignment.ensures
+pub returns-then-not-is_alignment : goal.returns-then-not-is_alignment
+returns-then-not-is_alignment c = no-alignment _ _ _ c.if-buf-off.false (sym c.is_alignment.ensures ∙ c.if-not-is_alignment.true) _ c.refuse-then-not-is_alignment.ensures

@@ -1,21 +1,42 @@
--- One law for every width and both orders: a number of twice the width is made of two halves.
-use Prim.Native.Nat.{ℕ, suc, ◌+◌, ◌*◌, ◌^◌, ◌≤◌, ◌<◌}
+-- Numbers of at most eight bytes by way of eight, in both orders: what is missing is zero.
+use Prim.Native.Nat.{ℕ, zero, suc, ◌+◌, ◌-◌, ◌*◌, ◌^◌, ◌≤◌, ◌<◌}
+use native.Mathlib.Numerals.{add-one}
 use native.Mathlib.Omega.{arith}
-use native.Mathlib.Nat.{pow-suc, pow-zero, suc-mul, mul_assoc, mul-le-mul_right}
-use lib.Pow.{pow-add}
-use mathlib.Core.List.{List, [], ◌∷◌, ◌++◌, reverse, reverse-append}
-use mathlib.Core.Path.{◌≡◌, refl, sym, ◌∙◌}
-use lib.ListN.{length, take, drop, get_or, length-drop, length-reverse}
-use lib.Seq.{take-add, drop-drop, drop-cons, length-take-le}
+use native.Mathlib.Nat.{pow-suc, pow-zero, mul_assoc}
+use mathlib.Core.List.{List, [], ◌∷◌, ◌++◌, reverse, reverse-append, append-nil}
+use mathlib.Core.Path.{◌≡◌, refl, ap, sym, ◌∙◌}
+use lib.ListN.{length, take, drop, replicate, get_or, length-append, length-drop, length-replicate}
+use lib.Seq.{drop-cons, length-take-le}
+use borrow.Rule.Slice.PartMut.{put_mid}
+use Rattle.std.specs.Int.{w64, from_le_bytes, from_be_bytes}
+use Rattle.std.proofs.lemmas.List.{take-replicate, drop-replicate, replicate_more}
 use Rattle.meaning.specs.Number.{value, load}
 use Rattle.meaning.specs.declared.Order.{Order}
 use Rattle.meaning.specs.declared.Order.TheVariants.{Little, Big}
+use Rattle.meaning.proofs.NumberLaws.{bytes_of}
+use Rattle.meaning.proofs.Meets.{stored}
 use Rattle.util.specs.Loaded.{Loaded}
 
--- a first and a second half, where a half holds k numbers: the code's own sums
-abbrev pub joint : Order → ℕ → ℕ → ℕ → ℕ
-joint Little k x y = x + y * k
-joint Big k x y = y + x * k
+-- a list of eight
+eight : (P : List ℕ → Type 0) → ((a b c d e f g h : ℕ) → P (a ∷ b ∷ c ∷ d ∷ e ∷ f ∷ g ∷ h ∷ [])) → (xs : List ℕ) → length xs ≡ 8 → P xs
+eight P all [] l = absurd (omega arith)
+eight P all (a ∷ []) l = absurd (omega arith)
+eight P all (a ∷ b ∷ []) l = absurd (omega arith)
+eight P all (a ∷ b ∷ c ∷ []) l = absurd (omega arith)
+eight P all (a ∷ b ∷ c ∷ d ∷ []) l = absurd (omega arith)
+eight P all (a ∷ b ∷ c ∷ d ∷ e ∷ []) l = absurd (omega arith)
+eight P all (a ∷ b ∷ c ∷ d ∷ e ∷ f ∷ []) l = absurd (omega arith)
+eight P all (a ∷ b ∷ c ∷ d ∷ e ∷ f ∷ g ∷ []) l = absurd (omega arith)
+eight P all (a ∷ b ∷ c ∷ d ∷ e ∷ f ∷ g ∷ h ∷ []) l = all a b c d e f g h
+eight P all (a ∷ b ∷ c ∷ d ∷ e ∷ f ∷ g ∷ h ∷ i ∷ xs) l = absurd (omega arith)
+
+little-eight : (xs : List ℕ) → length xs ≡ 8 → from_le_bytes w64 xs ≡ load Little xs
+unfolding load value
+little-eight = eight (λ xs. from_le_bytes w64 xs ≡ load Little xs) (λ a b c d e f g h. omega arith)
+
+big-eight : (xs : List ℕ) → length xs ≡ 8 → from_be_bytes w64 xs ≡ load Big xs
+unfolding load value
+big-eight = eight (λ xs. from_be_bytes w64 xs ≡ load Big xs) (λ a b c d e f g h. omega arith)
 
 value-append : (xs ys : List ℕ) → value (xs ++ ys) ≡ value xs + value ys * 256 ^ length xs
 unfolding value
@@ -24,29 +45,49 @@ value-append (x ∷ xs) ys =
     let e : value ys * (256 ^ length xs * 256) ≡ value ys * 256 ^ length xs * 256 = sym (mul_assoc (value ys) (256 ^ length xs) 256) in
     rw (value-append xs ys, pow-suc, e) (omega arith)
 
-load-append : (o : Order) (xs ys : List ℕ) → length xs ≡ length ys → load o (xs ++ ys) ≡ joint o (256 ^ length xs) (load o xs) (load o ys)
+value-zeros : (n : ℕ) → value (replicate n 0) ≡ 0
+unfolding value
+value-zeros zero = refl
+value-zeros (suc n) = rw (value-zeros n)
+
+reverse-zeros : (n : ℕ) → reverse (replicate {A = ℕ} n 0) ≡ replicate n 0
+reverse-zeros zero = refl
+reverse-zeros (suc n) =
+    reverse-append (0 ∷ []) (replicate n 0) ∙ ap (λ (l : List ℕ). l ++ 0 ∷ []) (reverse-zeros n) ∙ rw add-one at (replicate_more {X = ℕ} n 0)
+
+-- zeros at the greater end add nothing
+little-zeros : (xs : List ℕ) (n : ℕ) → load Little (xs ++ replicate n 0) ≡ load Little xs
 unfolding load
-load-append Little xs ys e = value-append xs ys
-load-append Big xs ys e = rw (reverse-append, e, ← (length-reverse ys)) (value-append (reverse ys) (reverse xs))
+little-zeros xs n = rw (value-append, value-zeros n) (omega arith)
 
-below : (k x y : ℕ) → x < k → y < k → x + y * k < k * k
-below k x y hx hy =
-    let h : suc y * k ≤ k * k = mul-le-mul_right k hy in
-    let e : suc y * k ≡ y * k + k = suc-mul y k in
-    omega arith
+big-zeros : (xs : List ℕ) (n : ℕ) → load Big (replicate n 0 ++ xs) ≡ load Big xs
+unfolding load
+big-zeros xs n = rw (reverse-append, reverse-zeros n, value-append, value-zeros n) (omega arith)
 
-joint-below : (o : Order) (k x y : ℕ) → x < k → y < k → joint o k x y < k * k
-joint-below Little k x y hx hy = below k x y hx hy
-joint-below Big k x y hx hy = below k y x hy hx
+-- the bytes of the number, which the code finds between `at` and `at + n`
+module _ (n : ℕ) (b : List ℕ) (at r : ℕ) (xs : List ℕ) (fits : n ≤ 8) (there : at + n ≤ length b)
+    (bytes : (i : ℕ) → get_or b i 0 < 256) (is : xs ≡ take (at + n - at) (drop at b)) where
+  own : xs ≡ take n (drop at b)
+  own = let e : at + n - at ≡ n = omega arith in is ∙ ap (λ (k : ℕ). take k (drop at b)) e
 
-pub halves : (o : Order) (n : ℕ) (b : List ℕ) (at x y : ℕ) → at + (n + n) ≤ length b → Loaded o n b at x → Loaded o n b (at + n) y → Loaded o (n + n) b at (joint o (256 ^ n) x y)
-halves o n b at x y h hx hy =
-    let l1 : length (take n (drop at b)) ≡ n = length-take-le n (drop at b) (rw length-drop (omega arith)) in
-    let l2 : length (take n (drop (at + n) b)) ≡ n = length-take-le n (drop (at + n) b) (rw length-drop (omega arith)) in
-    record {
-      is = rw (take-add, drop-drop, load-append o (take n (drop at b)) (take n (drop (at + n) b)) (l1 ∙ sym l2), l1, hx.is, hy.is) refl;
-      small = rw pow-add (joint-below o (256 ^ n) x y hx.small hy.small);
-    }
+  long : length xs ≡ n
+  long = ap length own ∙ length-take-le n (drop at b) (rw length-drop (omega arith))
+
+  of-load : (o : Order) → r ≡ load o xs → Loaded o n b at r
+  of-load o e = record { is = rw (← own) e; small = rw e (stored o n xs b at (bytes_of b bytes) long own).0 }
+
+  pub is-little : r ≡ from_le_bytes w64 (xs ++ drop n (replicate 8 0)) → Loaded Little n b at r
+  is-little e =
+      let z : xs ++ drop n (replicate 8 0) ≡ xs ++ replicate (8 - n) 0 = rw drop-replicate in
+      let l : length (xs ++ replicate (8 - n) 0) ≡ 8 = simp (length-append, length-replicate) (omega (arith, long)) in
+      of-load Little (e ∙ ap (from_le_bytes w64) z ∙ little-eight _ l ∙ little-zeros xs (8 - n))
+
+  pub is-big : r ≡ from_be_bytes w64 (put_mid (8 - n) (8 - (8 - n)) (replicate 8 0) xs) → Loaded Big n b at r
+  is-big e =
+      let gone : 8 - (8 - n) - (8 - (8 - n)) ≡ 0 = omega arith in
+      let z : put_mid (8 - n) (8 - (8 - n)) (replicate 8 0) xs ≡ replicate (8 - n) 0 ++ xs = rw (take-replicate {X = ℕ} (8 - n) 8 0 (omega arith), drop-replicate {X = ℕ} (8 - n) 8 0, drop-replicate {X = ℕ} (8 - (8 - n)) (8 - (8 - n)) 0, gone, append-nil) in
+      let l : length (replicate (8 - n) 0 ++ xs) ≡ 8 = simp (length-append, length-replicate) (omega (arith, long)) in
+      of-load Big (e ∙ ap (from_be_bytes w64) z ∙ big-eight _ l ∙ big-zeros xs (8 - n))
 
 -- a byte is a number of one byte, in either order
 pub single : (o : Order) (b : List ℕ) (at x : ℕ) → at < length b → x ≡ get_or b at 0 → x < 256 → Loaded o 1 b at x

@@ -1,17 +1,21 @@
--- The loop's invariant: what is left to test decides.
-use native.Mathlib.Nat.{add-zero, sub-zero}
+-- The closure tests each byte of the part.
 use native.Mathlib.Omega.{arith}
-use Rattle.util.proofs.Pads.{not-all, goes_on, all-passed}
+use lib.Dec.{eqb}
+use lib.ListN.{take, drop}
+use mathlib.Core.List.{List}
+use mathlib.Core.Path.{◌≡◌, ap, ◌∙◌}
+use Prim.Native.Nat.{ℕ, ◌+◌, ◌-◌}
+use Rattle.std.proofs.Common.{rules, tests}
+use Rattle.std.proofs.lemmas.Iterator.{YieldsList-from_slice}
+use Rattle.std.proofs.lemmas.Iterator.Search.{all_from_yields_List}
+use Rattle.meaning.specs.Number.{zeros}
+use Rattle.util.proofs.Pads.{zeros-all}
 use Rattle.util.proofs.zeros.Goals as goal
 
-pub loop-i-init : goal.loop-i-init
-loop-i-init c = (omega arith, simp (add-zero, sub-zero))
-
-pub returns-then-buf-from-ne0 : goal.returns-then-buf-from-ne0
-returns-then-buf-from-ne0 c = not-all _ _ _ _ c.loop-i-test.true c.requires c.if-buf-from-ne0.true c.loop-i.invariant.1
-
-pub loop-i-preserved : goal.loop-i-preserved
-loop-i-preserved c = (omega arith, goes_on _ _ _ _ c.loop-i-test.true c.requires c.if-buf-from-ne0.false c.loop-i.invariant.1)
-
 pub returns : goal.returns
-returns c = all-passed _ _ _ _ c.loop-i.invariant.0 c.loop-i-test.false c.loop-i.invariant.1
+returns c =
+    let a = c.args in
+    let e : a.from + a.count - a.from ≡ a.count = omega arith in
+    let part : List ℕ = take (a.from + a.count - a.from) (drop a.from a.buf.now) in
+    all_from_yields_List (λ x. eqb x 0) _ _ _ c.all.ensures.ran (YieldsList-from_slice part cc) (λ x b q k. search (rules, tests))
+    ∙ zeros-all part ∙ ap (λ (n : ℕ). zeros (take n (drop a.from a.buf.now))) e

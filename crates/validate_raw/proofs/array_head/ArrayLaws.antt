@@ -9,6 +9,7 @@ use lib.ListN.{length, take, drop}
 use lib.Dec.{leb, eqb}
 use borrow.Author.Tests.{eq-eqb, ne_eqb}
 use Rattle.meaning.specs.declared.Order.{Order}
+use Rattle.meaning.specs.declared.Part.{Part}
 use Rattle.meaning.specs.declared.Refusal.{Refusal}
 use Rattle.meaning.specs.declared.Place.{Place}
 use Rattle.meaning.specs.declared.Length.{Length}
@@ -20,7 +21,7 @@ use Rattle.meaning.specs.ReadValue.{padding, elements, length_r, contents_of, ar
 use Rattle.meaning.proofs.Local.{Cmp, is_le, is_gt, cmp, Ran, ran, stopped, bind_is, bind-got, bind-fault, bind_inv, ret_inv, ahead-yes, ahead-no, ahead-inv, within-yes, within-no, fault-inj, ret-no-fault, refuse-alike}
 use Rattle.meaning.proofs.ValueLocal.{padding-local}
 use Rattle.meaning.proofs.Meets.{here-bind, check_bind, bytes-bind-inv}
-use Rattle.basic.specs.declared.spelled.Opened.TheVariants.{Inside, Shut}
+use Rattle.std.specs.Prelude.{Ok, Err}
 use Rattle.validate_raw.specs.Head.{lying_r, head_r, inside_if, opened_of}
 
 -- the parts of a head that was read: after the first padding, after the length, at the first element
@@ -96,56 +97,53 @@ module _ (o : Order) (a : ℕ) (b : List ℕ) (off : ℕ) where
     pub head : head_r o a b off ≡ got n f
     pub within : f + n ≤ length b
 
-  pub inside-inv : (f : Place) (n : Length) → opened_of (length b) (head_r o a b off) ≡ Inside f n → Contents f.0 n.0
-  inside-inv f n h = go (head_r o a b off) refl h
+  pub inside-inv : (p : Part) → opened_of (length b) (head_r o a b off) ≡ Ok p → Contents p.0.0 p.1.0
+  inside-inv p h = go (head_r o a b off) refl h
     where
-      by : (m g : ℕ) → head_r o a b off ≡ got m g → Cmp (g + m) (length b) → inside_if (leb (g + m) (length b)) g m ≡ Inside f n → Contents f.0 n.0
+      by : (m g : ℕ) → head_r o a b off ≡ got m g → Cmp (g + m) (length b) → inside_if (leb (g + m) (length b)) g m ≡ Ok p → Contents p.0.0 p.1.0
       by m g q (is_le t l) k =
-          let at : Place = record { 0 = g } in
-          let long : Length = record { 0 = m } in
-          let e : Inside at long ≡ Inside f n = sym (ap (λ (x : Bool). inside_if x g m) t) ∙ k in
-          let u : at ≡ f = cc in
-          let v : long ≡ n = cc in
-          subst (λ (x : Place). Contents x.0 n.0) u (subst (λ (x : Length). Contents g x.0) v (record { head = q; within = l }))
+          let e : Ok (record { 0 = record { 0 = g }; 1 = record { 0 = m } }) ≡ Ok p = sym (ap (λ (x : Bool). inside_if x g m) t) ∙ k in
+          let u : record { 0 = record { 0 = g }; 1 = record { 0 = m } } ≡ p = cc in
+          subst (λ (x : Part). Contents x.0.0 x.1.0) u (record { head = q; within = l })
       by m g q (is_gt t l) k =
-          let e : Shut (refusal NotEnoughBytesForCollection g) ≡ Inside f n = sym (ap (λ (x : Bool). inside_if x g m) t) ∙ k in
+          let e : Err (refusal NotEnoughBytesForCollection g) ≡ Ok p = sym (ap (λ (x : Bool). inside_if x g m) t) ∙ k in
           absurd (let z : ◌≡◌ {A = ℕ} 0 1 = cc in omega arith)
 
-      go : (x : Res ℕ) → head_r o a b off ≡ x → opened_of (length b) x ≡ Inside f n → Contents f.0 n.0
+      go : (x : Res ℕ) → head_r o a b off ≡ x → opened_of (length b) x ≡ Ok p → Contents p.0.0 p.1.0
       go (got m g) q k = by m g q (cmp (g + m) (length b)) k
       go (fault y) q k = absurd (let z : ◌≡◌ {A = ℕ} 0 1 = cc in omega arith)
 
   -- an array whose contents are n bytes from f on is those contents, which see nothing beyond their end
-  pub array-inside : {A : Type 0} (c : ℕ → R A) (f : Place) (n : Length) → opened_of (length b) (head_r o a b off) ≡ Inside f n
-      → array_of o a c b off ≡ c n.0 (take (f.0 + n.0) b) f.0
-  array-inside c f n h =
-      let i = inside-inv f n h in
-      array-opens o a b off c n.0 f.0 i.head
-      ∙ within-yes n.0 (c n.0) b f.0 i.within
+  pub array-inside : {A : Type 0} (c : ℕ → R A) (p : Part) → opened_of (length b) (head_r o a b off) ≡ Ok p
+      → array_of o a c b off ≡ c p.1.0 (take (p.0.0 + p.1.0) b) p.0.0
+  array-inside c p h =
+      let i = inside-inv p h in
+      array-opens o a b off c p.1.0 p.0.0 i.head
+      ∙ within-yes p.1.0 (c p.1.0) b p.0.0 i.within
 
-  pub array-shut : {A : Type 0} (c : ℕ → R A) (x : Refusal) → opened_of (length b) (head_r o a b off) ≡ Shut x → array_of o a c b off ≡ fault x
+  pub array-shut : {A : Type 0} (c : ℕ → R A) (x : Refusal) → opened_of (length b) (head_r o a b off) ≡ Err x → array_of o a c b off ≡ fault x
   array-shut {A} c x h = go (head_r o a b off) refl h
     where
-      by : (n g : ℕ) → head_r o a b off ≡ got n g → Cmp (g + n) (length b) → inside_if (leb (g + n) (length b)) g n ≡ Shut x → array_of o a c b off ≡ fault x
+      by : (n g : ℕ) → head_r o a b off ≡ got n g → Cmp (g + n) (length b) → inside_if (leb (g + n) (length b)) g n ≡ Err x → array_of o a c b off ≡ fault x
       by n g q (is_le t l) k =
-          let e : Inside (record { 0 = g }) (record { 0 = n }) ≡ Shut x = sym (ap (λ (z : Bool). inside_if z g n) t) ∙ k in
+          let e : Ok (record { 0 = record { 0 = g }; 1 = record { 0 = n } }) ≡ Err x = sym (ap (λ (z : Bool). inside_if z g n) t) ∙ k in
           absurd (let z : ◌≡◌ {A = ℕ} 0 1 = cc in omega arith)
       by n g q (is_gt t l) k =
-          let e : Shut (refusal NotEnoughBytesForCollection g) ≡ Shut x = sym (ap (λ (z : Bool). inside_if z g n) t) ∙ k in
+          let e : Err (refusal NotEnoughBytesForCollection g) ≡ Err x = sym (ap (λ (z : Bool). inside_if z g n) t) ∙ k in
           let u : refusal NotEnoughBytesForCollection g ≡ x = cc in
           array-opens o a b off c n g q ∙ within-no n (c n) b g l ∙ ap (λ (y : Refusal). fault y) u
 
-      go : (y : Res ℕ) → head_r o a b off ≡ y → opened_of (length b) y ≡ Shut x → array_of o a c b off ≡ fault x
+      go : (y : Res ℕ) → head_r o a b off ≡ y → opened_of (length b) y ≡ Err x → array_of o a c b off ≡ fault x
       go (got n g) q k = by n g q (cmp (g + n) (length b)) k
       go (fault y) q k = let u : y ≡ x = cc in head-fault o a b off c x (q ∙ ap (λ (z : Refusal). fault z) u)
 
   -- the contents lie after the length field
-  pub inside-after : (f : Place) (n : Length) → off ≤ length b → opened_of (length b) (head_r o a b off) ≡ Inside f n → off + 4 ≤ f.0
-  inside-after f n l h =
-      let i = head-inv o a b off n.0 f.0 (inside-inv f n h).head in
-      let p = (padding-local 4).bound b off tt i.from l i.padded in
-      let r = length_r-past o b i.from n.0 i.past i.counts in
-      let u = (padding-local a).bound b i.past tt f.0 (omega (arith, i.fits)) i.first in
+  pub inside-after : (p : Part) → off ≤ length b → opened_of (length b) (head_r o a b off) ≡ Ok p → off + 4 ≤ p.0.0
+  inside-after p l h =
+      let i = head-inv o a b off p.1.0 p.0.0 (inside-inv p h).head in
+      let pad = (padding-local 4).bound b off tt i.from l i.padded in
+      let r = length_r-past o b i.from p.1.0 i.past i.counts in
+      let u = (padding-local a).bound b i.past tt p.0.0 (omega (arith, i.fits)) i.first in
       omega arith
 
 -- the elements between two places

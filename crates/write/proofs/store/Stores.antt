@@ -1,16 +1,28 @@
--- Runs of stores: a number of twice the width is stored as two halves, and a loop that stores one element after the other leaves a run.
-use Prim.Native.Nat.{ℕ, zero, suc, ◌+◌, ◌/◌, ◌%◌, ◌^◌, ◌<◌}
+-- What a copy into a part of the buffer leaves; and the library's bytes of a number, which are in either order those that the meaning names.
+use Prim.Native.Nat.{ℕ, zero, suc, ◌+◌, ◌-◌, ◌/◌, ◌%◌, ◌^◌, ◌≤◌}
 use native.Mathlib.Omega.{arith}
 use native.Mathlib.Nat.{pow-suc, pow-zero, div-one, div-div-eq-div-mul, mul_comm, suc-add, zero-add}
 use native.Mathlib.Numerals.{add-one}
-use mathlib.Core.List.{List, [], ◌∷◌, ◌++◌, reverse-append}
+use mathlib.Core.List.{List, [], ◌∷◌, ◌++◌, reverse, reverse-append}
 use mathlib.Core.Path.{◌≡◌, refl, ap, sym, ◌∙◌}
-use lib.ListN.{length, drop, get_or, set}
-use lib.Seq.{sets, drop-cons}
+use lib.ListN.{length, take, drop, set}
+use lib.Seq.{sets, sets-eq}
+use borrow.Rule.Slice.PartMut.{put_mid}
+use mir.Syntax.{w64}
+use Rattle.std.specs.Int.{byte_at, bytes_low_first, bytes_high_first, to_le_bytes, to_be_bytes}
+use Rattle.std.proofs.Common.{append_assoc}
+use Rattle.std.proofs.lemmas.List.{drop-drop, take_at, drop_at, take_all, length-reverse}
 use Rattle.meaning.specs.Number.{digits, store}
 use Rattle.meaning.proofs.NumberLaws.{length-store}
 use Rattle.meaning.specs.declared.Order.{Order}
 use Rattle.meaning.specs.declared.Order.TheVariants.{Little, Big}
+
+-- a part of the buffer, as long as what replaces it
+pub placed : (l xs : List ℕ) (at k : ℕ) → k ≡ length xs → at + length xs ≤ length l → put_mid at k l xs ≡ sets l at xs
+placed l xs at k e h =
+    ap (λ (n : ℕ). put_mid at n l xs) e
+    ∙ ap (λ (r : List ℕ). take at l ++ (xs ++ r)) (drop-drop (length xs) at l)
+    ∙ sym (sets-eq xs l at h ∙ append_assoc (take at l) xs (drop (at + length xs) l))
 
 -- one run after the other
 pub sets-append : (l xs ys : List ℕ) (at : ℕ) → sets l at (xs ++ ys) ≡ sets (sets l at xs) (at + length xs) ys
@@ -26,49 +38,58 @@ digits-add (suc m) n x =
     let e : x / 256 / 256 ^ m ≡ x / 256 ^ suc m = rw (div-div-eq-div-mul, pow-suc, mul_comm) in
     rw (suc-add, ← e) (ap (λ (l : List ℕ). x % 256 ∷ l) (digits-add m n (x / 256)))
 
--- what a number's first and second half are stored from, where a half holds k numbers: the code's own quotients
-abbrev pub first : Order → ℕ → ℕ → ℕ
-first Little k x = x
-first Big k x = x / k
-
-abbrev pub second : Order → ℕ → ℕ → ℕ
-second Little k x = x / k
-second Big k x = x
-
-store-halves : (o : Order) (n x : ℕ) → store o (n + n) x ≡ store o n (first o (256 ^ n) x) ++ store o n (second o (256 ^ n) x)
+length-digits : (n x : ℕ) → length (digits n x) ≡ n
 unfolding store
-store-halves Little n x = digits-add n n x
-store-halves Big n x = rw digits-add (reverse-append (digits n x) (digits n (x / 256 ^ n)))
+length-digits n x = length-store Little n x
 
--- one law for every width and both orders: two stores, and what they leave
-pub halves : (o : Order) (n : ℕ) (l : List ℕ) (at x : ℕ) (m e : List ℕ) → m ≡ sets l at (store o n (first o (256 ^ n) x)) → e ≡ sets m (at + n) (store o n (second o (256 ^ n) x))
-    → e ≡ sets l at (store o (n + n) x)
-halves o n l at x m e p q =
-    let a : List ℕ = store o n (first o (256 ^ n) x) in
-    let b : List ℕ = store o n (second o (256 ^ n) x) in
-    q
-    ∙ ap (λ (k : List ℕ). sets k (at + n) b) p
-    ∙ ap (λ (k : ℕ). sets (sets l at a) (at + k) b) (sym (length-store o n (first o (256 ^ n) x)))
-    ∙ sym (sets-append l a b at)
-    ∙ ap (sets l at) (sym (store-halves o n x))
+-- the library's bytes of a number, the least first and the greatest first
+is_byte : (i x : ℕ) → byte_at i x ≡ x / 256 ^ i % 256
+is_byte zero x = rw (pow-zero, div-one) refl
+is_byte (suc i) x = refl
 
--- one turn of a loop: what is left to store is one element shorter
-pub turn : (l e src : List ℕ) (at i v : ℕ) → i < length src → v ≡ get_or src i 0 → sets l (at + i) (drop i src) ≡ e → sets (set l (at + i) v) (at + (i + 1)) (drop (i + 1) src) ≡ e
-turn l e src at i v h q p =
-    let b : at + (i + 1) ≡ suc (at + i) = omega arith in
-    rw (b, add-one, q) (rw (drop-cons src i 0 h) at p)
+low_first : (k i x : ℕ) → bytes_low_first i k x ≡ digits k (x / 256 ^ i)
+unfolding digits
+low_first zero i x = refl
+low_first (suc k) i x =
+    let e : x / 256 ^ i / 256 ≡ x / 256 ^ suc i = rw (div-div-eq-div-mul, pow-suc) refl in
+    rw (is_byte, e, ← low_first k (suc i) x) refl
+
+high_first : (k x : ℕ) → bytes_high_first k x ≡ reverse (digits k x)
+unfolding digits
+high_first zero x = refl
+high_first (suc k) x =
+    let e : digits (k + 1) x ≡ digits k x ++ (x / 256 ^ k % 256 ∷ []) = digits-add k 1 x in
+    let f : reverse (digits (suc k) x) ≡ x / 256 ^ k % 256 ∷ reverse (digits k x) = ap reverse (rw add-one at e) ∙ reverse-append (digits k x) _ in
+    rw (is_byte, high_first k x) (sym f)
+
+-- the first or the last of them are all bytes of a narrower number
+module _ (w x : ℕ) (h : w ≤ 8) where
+  rest : List ℕ
+  rest = digits (8 - w) (x / 256 ^ w)
+
+  parts : digits 8 x ≡ digits w x ++ rest
+  unfolding rest
+  parts = let e : 8 ≡ w + (8 - w) = omega arith in ap (λ (n : ℕ). digits n x) e ∙ digits-add w (8 - w) x
+
+  pub little_bytes : take w (to_le_bytes w64 x) ≡ store Little w x
+  unfolding store
+  little_bytes =
+      let e : bytes_low_first 0 8 x ≡ digits w x ++ rest = low_first 8 0 x ∙ rw (pow-zero, div-one) parts in
+      ap (take w) e ∙ take_at (digits w x) rest w (length-digits w x)
+
+  pub big_bytes : take (8 - (8 - w)) (drop (8 - w) (to_be_bytes w64 x)) ≡ store Big w x
+  unfolding store rest
+  big_bytes =
+      let narrow : List ℕ = reverse (digits w x) in
+      let e : bytes_high_first 8 x ≡ reverse rest ++ narrow = high_first 8 x ∙ ap reverse parts ∙ reverse-append (digits w x) rest in
+      let before : length (reverse rest) ≡ 8 - w = length-reverse rest ∙ length-digits (8 - w) (x / 256 ^ w) in
+      let long : length narrow ≡ w = length-reverse (digits w x) ∙ length-digits w x in
+      ap (λ (l : List ℕ). take (8 - (8 - w)) (drop (8 - w) l)) e
+      ∙ ap (take (8 - (8 - w))) (drop_at (reverse rest) narrow (8 - w) before)
+      ∙ take_all (8 - (8 - w)) narrow (omega arith)
 
 -- a number of one byte is stored the same in both orders
 pub one_byte : (o : Order) (x : ℕ) → store o 1 x ≡ x % 256 ∷ []
 unfolding store digits
 one_byte Little x = refl
 one_byte Big x = refl
-
-pub single-byte : (o : Order) (l : List ℕ) (at x : ℕ) → set l at (x % 256) ≡ sets l at (store o 1 x)
-single-byte o l at x = rw (one_byte o x)
-
--- two bytes are two halves of one byte each
-pub two_bytes : (o : Order) (l : List ℕ) (at x v w : ℕ) → v ≡ first o 256 x % 256 → w ≡ second o 256 x % 256
-    → set (set l at v) (at + 1) w ≡ sets l at (store o 2 x)
-two_bytes o l at x v w p q =
-    rw (p, q) (halves o 1 l at x (set l at (first o 256 x % 256)) _ (single-byte o l at _) (single-byte o _ (at + 1) _))

@@ -22,8 +22,7 @@ use Rattle.meaning.specs.declared.Place.{Place}
 use Rattle.meaning.specs.declared.Order.{Order}
 use Rattle.meaning.specs.declared.Fault.{Fault}
 use Rattle.meaning.specs.declared.Fault.TheVariants.{BadAlignment, InvalidUtf8, StringContainsNullByte, TextTooLong}
-use Rattle.meaning.specs.declared.Integer.TheVariants.{Read}
-use Rattle.meaning.specs.declared.Written.TheVariants.{Done}
+use Rattle.std.specs.Prelude.{Ok}
 use Rattle.meaning.proofs.Local.{Cmp, cmp, is_le, is_gt, leb-true, leb-false}
 use Rattle.meaning.proofs.NumberLaws.{length-store, load_store}
 use Rattle.meaning.proofs.Meets.{At, at_none, at-then, here-bind, bytes-bind, padding-complete}
@@ -40,7 +39,7 @@ pub record Stands (xs after : List ℕ) (at : ℕ) (p : Place) : Type 0 where
 -- a write that is done met the contract: its content was bytes, and there they stand
 module _ (c : Content) (b : List ℕ) (at : ℕ) (p : Place) (after : List ℕ) where
   pub record Met : Type 0 where
-    pub done : Done p ≡ (write_at c b at).answer
+    pub done : Ok p ≡ (write_at c b at).answer
     pub buffer : after ≡ (write_at c b at).after
 
   there : (xs : List ℕ) → at + length xs ≤ length b → p.0 ≡ at + length xs → after ≡ take at b ++ xs ++ drop (at + length xs) b → Stands xs after at p
@@ -53,12 +52,12 @@ module _ (c : Content) (b : List ℕ) (at : ℕ) (p : Place) (after : List ℕ) 
       let g : drop p.0 after ≡ d = rw (q, e) (drop_at (take at b ++ xs) d (at + length xs) m) in
       record { held = record { end = e; is = rw (f, g) }; inside = rw (q, length-append, m) (omega arith) }
 
-  put-stands : (xs : List ℕ) → Done p ≡ (put_at b at xs).answer → after ≡ (put_at b at xs).after → Stands xs after at p
+  put-stands : (xs : List ℕ) → Ok p ≡ (put_at b at xs).answer → after ≡ (put_at b at xs).after → Stands xs after at p
   unfolding put_at
   put-stands xs h q = go (cmp (at + length xs) (length b))
     where
       go : Cmp (at + length xs) (length b) → Stands xs after at p
-      go (is_le t l) = let d : Done p ≡ Done (record { 0 = at + length xs }) = rw (t, put_at) at h in there xs l (cc) (rw (t, put_at) at q)
+      go (is_le t l) = let d : Ok p ≡ Ok (record { 0 = at + length xs }) = rw (t, put_at) at h in there xs l (cc) (rw (t, put_at) at q)
       go (is_gt t l) = absurd (let d = rw (t, put_at) at h in let z : ◌≡◌ {A = ℕ} 0 1 = cc in omega arith)
 
   outside-not : length b < at → Met → ⊥
@@ -111,7 +110,7 @@ module _ (o : Order) (c : Base) (v : Raw c) (k : OkBase c v) (after : List ℕ) 
 
 -- Numbers: one theorem over widths and orders
 module _ (o : Order) (w x : ℕ) (h : x < 256 ^ w) (b : List ℕ) (at : ℕ) (p : Place) (after : List ℕ) where
-  pub integer-back : Met (integer_bytes o w x) b at p after → (read_integer o w after at ≡ Read x) × (p.0 ≡ at + w)
+  pub integer-back : Met (integer_bytes o w x) b at p after → (read_integer o w after at ≡ Ok x) × (p.0 ≡ at + w)
   unfolding read_integer unsigned_r ret
   integer-back m =
       let s = met-stands (integer_bytes o w x) b at p after (store o w x) refl m in

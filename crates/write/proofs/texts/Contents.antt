@@ -12,7 +12,7 @@ use Rattle.meaning.specs.Signature.{Parsed, types, refused, parse}
 use Rattle.meaning.specs.ReadValue.{counted_of}
 use Rattle.meaning.specs.Writers.{bytes, faulty, string_bytes, signature_from, signature_bytes}
 use Rattle.meaning.specs.declared.Fault.TheVariants.{InvalidUtf8, StringContainsNullByte, TextTooLong}
-use Rattle.meaning.specs.declared.Counted.TheVariants.{Types, Refused}
+use Rattle.std.specs.Prelude.{Ok, Err}
 use Rattle.meaning.specs.declared.Fault.{Fault}
 use Rattle.meaning.specs.declared.Refusal.{Refusal}
 use Rattle.meaning.specs.Faults.{refusal}
@@ -20,7 +20,8 @@ use Rattle.meaning.specs.declared.Order.{Order}
 use Rattle.meaning.specs.declared.Order.TheVariants.{Little}
 use Rattle.meaning.proofs.NumberLaws.{length-store}
 use Rattle.meaning.proofs.SignatureLaws.{parse-sound}
-use Rattle.text.specs.declared.Text.TheVariants.{Fine, NotUtf8, HasZero}
+use Rattle.std.specs.Prelude.{Ok, Err}
+use Rattle.text.specs.declared.BadText.TheVariants.{NotUtf8, HasZero}
 use Rattle.text.specs.Verdict.{text_number, text_fault}
 use Rattle.text.proofs.Scans.{text_says}
 use Rattle.write.proofs.store.Stores.{sets-append, one_byte}
@@ -44,21 +45,21 @@ module _ (o : Order) (s : List ℕ) where
   too_long h = rw (le-ltb (length s) (256 ^ 4) (omega arith))
 
   module _ (h : length s ≤ 4294967295) where
-    pub fine : text_number Fine ≡ text_fault s → string_bytes o s ≡ bytes (sized o 4 s)
-    fine e = let t = text_says Fine s e in rw (lt-ltb (length s) (256 ^ 4) (omega arith), t.0, t.1)
+    pub fine : text_number (Ok tt) ≡ text_fault s → string_bytes o s ≡ bytes (sized o 4 s)
+    fine e = let t = text_says (Ok tt) s e in rw (lt-ltb (length s) (256 ^ 4) (omega arith), t.0, t.1)
 
-    pub not-utf8 : text_number NotUtf8 ≡ text_fault s → string_bytes o s ≡ faulty InvalidUtf8
-    not-utf8 e = let t = text_says NotUtf8 s e in rw (lt-ltb (length s) (256 ^ 4) (omega arith), t)
+    pub not-utf8 : text_number (Err NotUtf8) ≡ text_fault s → string_bytes o s ≡ faulty InvalidUtf8
+    not-utf8 e = let t = text_says (Err NotUtf8) s e in rw (lt-ltb (length s) (256 ^ 4) (omega arith), t)
 
-    pub has-zero : text_number HasZero ≡ text_fault s → string_bytes o s ≡ faulty StringContainsNullByte
-    has-zero e = let t = text_says HasZero s e in rw (lt-ltb (length s) (256 ^ 4) (omega arith), t.0, t.1)
+    pub has-zero : text_number (Err HasZero) ≡ text_fault s → string_bytes o s ≡ faulty StringContainsNullByte
+    has-zero e = let t = text_says (Err HasZero) s e in rw (lt-ltb (length s) (256 ^ 4) (omega arith), t.0, t.1)
 
 -- a signature, by the count of its types
-spells : (o : Order) (s : List ℕ) (p : Parsed) (n : ℕ) → parse s ≡ p → Types n ≡ counted_of p → (length s ≤ 255) × (signature_from o s p ≡ bytes (sized o 1 s))
+spells : (o : Order) (s : List ℕ) (p : Parsed) (n : ℕ) → parse s ≡ p → Ok n ≡ counted_of p → (length s ≤ 255) × (signature_from o s p ≡ bytes (sized o 1 s))
 spells o s (types ts) n e h = ((parse-sound s ts e).2, refl)
 spells o s (refused k) n e h = absurd (let z : ◌≡◌ {A = ℕ} 0 1 = cc in omega arith)
 
-pub signature-small : (s : List ℕ) (n : ℕ) → Types n ≡ counted_of (parse s) → length s ≤ 255
+pub signature-small : (s : List ℕ) (n : ℕ) → Ok n ≡ counted_of (parse s) → length s ≤ 255
 signature-small s n h = (spells Little s (parse s) n refl h).0
 
 -- one byte of length is the same in either order
@@ -66,14 +67,14 @@ sized-one : (o : Order) (s : List ℕ) → sized o 1 s ≡ sized Little 1 s
 unfolding sized
 sized-one o s = rw (one_byte o (length s), one_byte Little (length s))
 
-pub is-signature : (o : Order) (s : List ℕ) (n : ℕ) → Types n ≡ counted_of (parse s) → signature_bytes o s ≡ bytes (sized Little 1 s)
+pub is-signature : (o : Order) (s : List ℕ) (n : ℕ) → Ok n ≡ counted_of (parse s) → signature_bytes o s ≡ bytes (sized Little 1 s)
 is-signature o s n h = (spells o s (parse s) n refl h).1 ∙ ap bytes (sized-one o s)
 
-faults : (o : Order) (s : List ℕ) (p : Parsed) (x : Refusal) → Refused x ≡ counted_of p
+faults : (o : Order) (s : List ℕ) (p : Parsed) (x : Refusal) → Err x ≡ counted_of p
     → (k : Fault) × (signature_from o s p ≡ faulty k) × (x ≡ refusal k 0)
 faults o s (types ts) x h = absurd (let z : ◌≡◌ {A = ℕ} 0 1 = cc in omega arith)
 faults o s (refused k) x h = (k, refl, cc)
 
-pub not-signature : (o : Order) (s : List ℕ) (x : Refusal) → Refused x ≡ counted_of (parse s)
+pub not-signature : (o : Order) (s : List ℕ) (x : Refusal) → Err x ≡ counted_of (parse s)
     → (k : Fault) × (signature_bytes o s ≡ faulty k) × (x ≡ refusal k 0)
 not-signature o s x h = faults o s (parse s) x h

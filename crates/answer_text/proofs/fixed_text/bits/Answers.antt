@@ -1,10 +1,6 @@
--- The digits that the array begins with are sixteen.
-use mathlib.Core.Path.{◌∙◌}
-use Rattle.answer_text.proofs.fixed_text.Sixteen.{sixteen-digits}
-use borrow.Author.Rules.{rules}
+-- Eight bytes have sixteen digits.
+use Rattle.answer_text.proofs.fixed_text.Numbers.{sixteen}
 use Rattle.answer_text.proofs.fixed_text.bits.Goals as goal
 
 pub returns : goal.returns
-returns c =
-    let d = c.hex-k.ensures in
-    rw (← d.digits ∙ sixteen-digits _ _ (search rules) d.len) c.put.ensures
+returns c = rw (← sixteen c.args.n) (rw c.to_be_bytes.ensures at c.spelled.ensures)

@@ -1,27 +1,17 @@
--- The test says on which side of zero the number lies, and its distance from there fits.
-use Rattle.answer_text.proofs.fixed_text.Signs.{is_below, far-fits, far-cast, far-next, is-above, is-shown-below, is-shown-above}
+-- The word, then the number's sign and its distance from zero.
+use mir.Facts.{to_z-of_z}
+use Rattle.text_out.proofs.PutLaws.{then}
+use Rattle.answer_text.proofs.fixed_text.Numbers.{below, above}
 use Rattle.answer_text.proofs.fixed_text.signed.Goals as goal
-
-pub overflow_sub-result : goal.overflow_sub-result
-overflow_sub-result c =
-    let b = is_below _ c.ranges.n c.if-n-lt0.true in far-fits _ b
-
-pub overflow_cast-result : goal.overflow_cast-result
-overflow_cast-result c =
-    let b = is_below _ c.ranges.n c.if-n-lt0.true in far-cast _ b
-
-pub overflow_add-result : goal.overflow_add-result
-overflow_add-result c =
-    let b = is_below _ c.ranges.n c.if-n-lt0.true in far-next _ b
-
-pub overflow_cast-result-else-n-lt0 : goal.overflow_cast-result-else-n-lt0
-overflow_cast-result-else-n-lt0 c =
-    is-above _ c.ranges.n c.if-n-lt0.false
 
 pub returns-then-n-lt0 : goal.returns-then-n-lt0
 returns-then-n-lt0 c =
-    is-shown-below _ _ c.ranges.n c.if-n-lt0.true
+    let same = to_z-of_z c.ranges.n in
+    let far = rw (c.unsigned_abs.ensures.value, same) at c.put_number.ensures in
+    rw (below c.args.n (rw same at c.if-n-lt0.true)) (then c.put-behind.ensures (then c.put-past.ensures far))
 
 pub returns-else-n-lt0 : goal.returns-else-n-lt0
 returns-else-n-lt0 c =
-    is-shown-above _ _ c.ranges.n c.if-n-lt0.false
+    let same = to_z-of_z c.ranges.n in
+    let far = rw (c.unsigned_abs-else-n-lt0.ensures.value, same) at c.put_number-else-n-lt0.ensures in
+    rw (above c.args.n (rw same at c.if-n-lt0.false)) (then c.put-behind.ensures far)

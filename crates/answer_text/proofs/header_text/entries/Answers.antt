@@ -1,18 +1,14 @@
--- What is left to put is what was to be put.
-use native.Mathlib.Omega.{arith}
-use mathlib.Core.Path.{refl}
-use Rattle.meaning.specs.declared.Entry.TheVariants.{Absent}
-use Rattle.answer_text.specs.Headers.{entries_of, entry_texts}
-use Rattle.answer_text.proofs.header_text.HeaderLaws.{turn, end}
+-- Each turn puts one more behind those so far.
+use Rattle.std.proofs.Common.{refl, arith}
+use Rattle.answer_text.specs.Headers.{entries_of, entry_texts, each_texts}
+use Rattle.answer_text.proofs.header_text.HeaderLaws.{nothing, turn}
 use Rattle.answer_text.proofs.header_text.entries.Goals as goal
 
-pub loop-i-preserved : goal.loop-i-preserved
-loop-i-preserved c =
-    let put = rw c.entry_at.ensures at c.entry-behind.ensures in
-    (omega arith, omega arith, turn entry_texts (entries_of c.args.f) c.loop-i.i Absent _ (omega arith) put c.loop-i.invariant.2)
+pub loop-e-init : goal.loop-e-init
+unfolding each_texts
+loop-e-init c = (refl, nothing)
 
-pub returns : goal.returns
-returns c = end entry_texts (entries_of c.args.f) c.loop-i.i (omega arith) c.loop-i.invariant.2
-
-pub loop-i-init : goal.loop-i-init
-loop-i-init c = (omega arith, refl, refl)
+pub loop-e-preserved : goal.loop-e-preserved
+loop-e-preserved c =
+    let l = c.loop-e in
+    (omega arith, turn entry_texts (entries_of c.args.f) l.e-index _ (omega arith) l.invariant.1 c.entry-behind.ensures)

@@ -2,66 +2,35 @@
 use mathlib.Core.Path.{sym, ◌∙◌}
 use native.Mathlib.Omega.{arith}
 use Rattle.meaning.specs.declared.Order.TheVariants.{Little}
-use Rattle.basic.proofs.spelled.SpellLaws.{spelt-reached, inner-stop, inner-none, inner-more, inner-one, spelt-within}
-use borrow.Author.Rules.{rules}
+use Rattle.basic.proofs.spelled.SpellLaws.{inner-stop, inner-none, inner-more, inner-one, spelt-within, misspelt}
 use Rattle.basic.proofs.spelled.inner.Goals as goal
 
-pub spelled_types-requires : goal.spelled_types-requires
-spelled_types-requires c = search rules
+pub returns-in_err-types : goal.returns-in_err-types
+returns-in_err-types c = λ o.
+    let refused = misspelt o _ _ _ _ (sym c.in_err-types.was ∙ c.spelled_types.ensures o) c.from_residual.ensures in
+    refused.1 ∙ inner-stop o _ _ c.requires _ refused.2
 
-pub enum_known-n : goal.enum_known-n
-enum_known-n c = search rules
+pub returns-then-types-eq0 : goal.returns-then-types-eq0
+returns-then-types-eq0 c = λ o.
+    let spelt = sym c.in_ok-types.was ∙ c.spelled_types.ensures o in
+    inner-none o _ _ c.requires _ _ _ c.if-types-eq0.true spelt c.refuse.ensures
 
-pub overflow_add-first : goal.overflow_add-first
-overflow_add-first c = search rules
-
-pub overflow_sub-stop : goal.overflow_sub-stop
-overflow_sub-stop c =
-    let spelt = sym c.in-Types.is ∙ c.spelled_types.ensures Little in
-    omega (arith, (spelt-within Little _ _ _ c.requires _ _ spelt).0)
+pub returns-then-types-ne1 : goal.returns-then-types-ne1
+returns-then-types-ne1 c = λ o.
+    let spelt = sym c.in_ok-types.was ∙ c.spelled_types.ensures o in
+    inner-more o _ _ c.requires _ _ _ c.if-types-eq0.false c.if-types-ne1.true spelt c.refuse-then-types-ne1.ensures
 
 pub overflow_sub-result : goal.overflow_sub-result
 overflow_sub-result c =
-    let spelt = sym c.in-Types.is ∙ c.spelled_types.ensures Little in
-    omega (arith, (spelt-within Little _ _ _ c.requires _ _ spelt).0)
+    let spelt = sym c.in_ok-types.was ∙ c.spelled_types.ensures Little in
+    omega (arith, (spelt-within Little _ _ c.requires _ _ spelt).0)
 
-pub refuse-requires : goal.refuse-requires
-refuse-requires c = search rules
+pub overflow_sub-result-2 : goal.overflow_sub-result-2
+overflow_sub-result-2 c =
+    let spelt = sym c.in_ok-types.was ∙ c.spelled_types.ensures Little in
+    omega (arith, (spelt-within Little _ _ c.requires _ _ spelt).0)
 
-pub refuse-requires-else-n-eq0 : goal.refuse-requires-else-n-eq0
-refuse-requires-else-n-eq0 c = search rules
-
-pub enum_known-refusal : goal.enum_known-refusal
-enum_known-refusal c = search rules
-
-pub enum_known-refusal-in-Refused-1 : goal.enum_known-refusal-in-Refused-1
-enum_known-refusal-in-Refused-1 c = search rules
-
-pub returns-then-n-eq1 : goal.returns-then-n-eq1
-returns-then-n-eq1 c =
-    let c-pre = c.requires in
-    let c-if1 = c.if-n-eq1 in
-    let c-spelled-types = c.spelled_types in
-    λ o. inner-one o _ _ _ (c-pre) _ _ c-if1.true (sym c.in-Types.is ∙ c-spelled-types.ensures o)
-
-pub returns-then-n-eq0 : goal.returns-then-n-eq0
-returns-then-n-eq0 c = λ o.
-    let spelt = sym c.in-Types.is ∙ c.spelled_types.ensures o in
-    inner-none o _ _ _ c.requires _ _ _ c.if-n-eq0.true spelt c.refuse.ensures
-
-pub returns-else-n-eq0 : goal.returns-else-n-eq0
-returns-else-n-eq0 c = λ o.
-    let spelt = sym c.in-Types.is ∙ c.spelled_types.ensures o in
-    inner-more o _ _ _ c.requires _ _ _ c.if-n-eq0.false c.if-n-eq1.false spelt c.refuse-else-n-eq0.ensures
-
-pub returns-in-Unspelt : goal.returns-in-Unspelt
-returns-in-Unspelt c =
-    let w = c.requires in
-    let spelt = c.spelled_types.ensures in
-    λ o. inner-stop o _ _ _ w _ (spelt-reached o _ _ _ (sym c.in-Unspelt.is ∙ spelt o))
-
-pub returns-in-Refused : goal.returns-in-Refused
-returns-in-Refused c =
-    let w = c.requires in
-    let spelt = c.spelled_types.ensures in
-    λ o. inner-stop o _ _ _ w _ (spelt-reached o _ _ _ (sym c.in-Refused.is ∙ spelt o))
+pub returns : goal.returns
+returns c = λ o.
+    let spelt = sym c.in_ok-types.was ∙ c.spelled_types.ensures o in
+    inner-one o _ _ c.requires _ _ c.if-types-ne1.false spelt

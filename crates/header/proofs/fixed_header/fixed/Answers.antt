@@ -1,34 +1,25 @@
 -- Each return is one way through the first 12 bytes.
-use mathlib.Core.Path.{sym, ◌∙◌}
-use Rattle.header.proofs.fixed_header.HeadLaws.{start-short, start-mark, start-kind, start-read}
+use mathlib.Core.Path.{◌∙◌}
+use Rattle.meaning.proofs.Passing.{handed-on}
+use Rattle.header.proofs.fixed_header.HeadLaws.{told, not-told, start-short, start-mark, start-kind, start-read}
 use Rattle.header.proofs.fixed_header.fixed.Goals as goal
 
 pub returns-then-buf-lt12 : goal.returns-then-buf-lt12
 returns-then-buf-lt12 c = start-short _ _ c.if-buf-lt12.true c.refuse.ensures
 
-pub returns-then-is_kind : goal.returns-then-is_kind
-returns-then-is_kind c =
-    let serial = c in
-    let type = serial in
-    let order = type in
-    let kind = order in
-    let mark = kind in
-    let long = mark in
-    let marked = sym mark.is_mark.ensures ∙ mark.if-is_mark.true in
-    let kinded = sym kind.is_kind.ensures ∙ kind.if-is_kind.true in
-    start-read _ long.if-buf-lt12.false marked kinded _ _ _ _ order.byteorder-order.ensures type.message_type.ensures
-    serial.load32.ensures.is c.load32-then-is_kind.ensures.is
+pub returns-in_err-order : goal.returns-in_err-order
+returns-in_err-order c =
+    let mark = not-told _ _ _ _ c.try_from.ensures _ c.in_err-order.was in
+    handed-on _ _ c.from_residual.ensures ∙ start-mark _ c.if-buf-lt12.false _ mark.0 mark.1
 
-pub returns-else-is_kind : goal.returns-else-is_kind
-returns-else-is_kind c =
-    let kind = c in
-    let mark = kind in
-    let long = mark in
-    let marked = sym mark.is_mark.ensures ∙ mark.if-is_mark.true in
-    start-kind _ long.if-buf-lt12.false marked _ (sym kind.is_kind.ensures ∙ kind.if-is_kind.false) c.refuse-else-is_kind.ensures
+pub returns-in_err-kind : goal.returns-in_err-kind
+returns-in_err-kind c =
+    let mark = told _ _ _ _ c.try_from.ensures _ c.in_ok-order.was in
+    let number = not-told _ _ _ _ c.try_from-2.ensures _ c.in_err-kind.was in
+    handed-on _ _ c.from_residual-in_err-kind.ensures ∙ start-kind _ c.if-buf-lt12.false mark.0 _ number.0 number.1
 
-pub returns-else-is_mark : goal.returns-else-is_mark
-returns-else-is_mark c =
-    let mark = c in
-    let long = mark in
-    start-mark _ long.if-buf-lt12.false _ (sym mark.is_mark.ensures ∙ mark.if-is_mark.false) c.refuse-else-is_mark.ensures
+pub returns : goal.returns
+returns c =
+    let mark = told _ _ _ _ c.try_from.ensures _ c.in_ok-order.was in
+    let number = told _ _ _ _ c.try_from-2.ensures _ c.in_ok-kind.was in
+    start-read _ c.if-buf-lt12.false mark.0 number.0 _ _ _ _ mark.1 number.1 c.load32.ensures.is c.load32-2.ensures.is

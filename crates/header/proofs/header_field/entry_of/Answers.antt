@@ -5,32 +5,31 @@ use Rattle.header.proofs.header_field.entry_of.Goals as goal
 
 pub load32-requires : goal.load32-requires
 load32-requires c =
-    let h = c.requires.stands in
-    omega (arith, (is_number h c.if-k-eq117.true).0, h.held)
+    (is_number c.requires.stands c.in-117.is).0
 
 pub overflow_add-first : goal.overflow_add-first
-overflow_add-first c = omega (arith, (is-spelling c.requires.stands c.if-k-eq103.true).0)
+overflow_add-first c = omega (arith, (is-spelling c.requires.stands c.in-103.is).0)
 
 pub overflow_sub-result : goal.overflow_sub-result
-overflow_sub-result c = omega (arith, (is-spelling c.requires.stands c.if-k-eq103.true).0)
+overflow_sub-result c = omega (arith, (is-spelling c.requires.stands c.in-103.is).0)
 
-pub overflow_sub-result-then-k-eq103 : goal.overflow_sub-result-then-k-eq103
-overflow_sub-result-then-k-eq103 c = omega (arith, (is-spelling c.requires.stands c.if-k-eq103.true).0)
+pub overflow_sub-result-in-103 : goal.overflow_sub-result-in-103
+overflow_sub-result-in-103 c = omega (arith, (is-spelling c.requires.stands c.in-103.is).0)
 
-pub overflow_add-first-else-k-eq103 : goal.overflow_add-first-else-k-eq103
-overflow_add-first-else-k-eq103 c = omega (arith, (is-text c.requires.stands c.if-k-eq117.false c.if-k-eq103.false).0)
+pub overflow_add-first-in_default : goal.overflow_add-first-in_default
+overflow_add-first-in_default c = omega (arith, (is-text c.requires.stands (λ z. omega arith) (λ z. omega arith)).0)
 
-pub overflow_sub-result-else-k-eq103 : goal.overflow_sub-result-else-k-eq103
-overflow_sub-result-else-k-eq103 c = omega (arith, (is-text c.requires.stands c.if-k-eq117.false c.if-k-eq103.false).0)
+pub overflow_sub-result-in_default : goal.overflow_sub-result-in_default
+overflow_sub-result-in_default c = omega (arith, (is-text c.requires.stands (λ z. omega arith) (λ z. omega arith)).0)
 
-pub overflow_sub-result-else-k-eq103-2 : goal.overflow_sub-result-else-k-eq103-2
-overflow_sub-result-else-k-eq103-2 c = omega (arith, (is-text c.requires.stands c.if-k-eq117.false c.if-k-eq103.false).0)
+pub overflow_sub-result-in_default-2 : goal.overflow_sub-result-in_default-2
+overflow_sub-result-in_default-2 c = omega (arith, (is-text c.requires.stands (λ z. omega arith) (λ z. omega arith)).0)
 
-pub returns-then-k-eq117 : goal.returns-then-k-eq117
-returns-then-k-eq117 c = λ end code b v h. (is_number h c.if-k-eq117.true).1 _ c.load32.ensures.is
+pub returns-in-117 : goal.returns-in-117
+returns-in-117 c = λ code b v h. (is_number h c.in-117.is).1 _ c.load32.ensures.is
 
-pub returns-then-k-eq103 : goal.returns-then-k-eq103
-returns-then-k-eq103 c = λ end code b v h. (is-spelling h c.if-k-eq103.true).1
+pub returns-in-103 : goal.returns-in-103
+returns-in-103 c = λ code b v h. (is-spelling h c.in-103.is).1
 
-pub returns-else-k-eq103 : goal.returns-else-k-eq103
-returns-else-k-eq103 c = λ end code b v h. (is-text h c.if-k-eq117.false c.if-k-eq103.false).1
+pub returns-in_default : goal.returns-in_default
+returns-in_default c = λ code b v h. (is-text h (λ z. omega arith) (λ z. omega arith)).1

@@ -7,9 +7,9 @@ use Rattle.util.proofs.integers.Loads.{single}
 use Rattle.text.proofs.strings.Strings.{no_field}
 use Rattle.text.proofs.strings.read_signature_text.Goals as goal
 
-pub returns-then-end-off : goal.returns-then-end-off
+pub returns-then-buf-off : goal.returns-then-buf-off
 unfolding read_sig
-returns-then-end-off c = λ o. no_field o _ _ _ _ _ c.requires.held c.requires.inside (omega arith) _ c.refuse.ensures
+returns-then-buf-off c = λ o. no_field o _ _ _ _ c.requires (omega arith) _ c.refuse.ensures
 
 pub overflow_cast-len : goal.overflow_cast-len
 overflow_cast-len c = omega (arith, c.type_inv.buf c.args.off)

@@ -3,9 +3,9 @@ use Rattle.meaning.specs.ReadValue.{read_text}
 use Rattle.text.proofs.strings.Strings.{no_field}
 use Rattle.text.proofs.strings.read_string.Goals as goal
 
-pub returns-then-end-off-lt4 : goal.returns-then-end-off-lt4
+pub returns-then-buf-off-lt4 : goal.returns-then-buf-off-lt4
 unfolding read_text
-returns-then-end-off-lt4 c = no_field _ 4 _ _ _ _ c.requires.held c.requires.inside c.if-end-off-lt4.true _ c.refuse.ensures
+returns-then-buf-off-lt4 c = no_field _ 4 _ _ _ c.requires c.if-buf-off-lt4.true _ c.refuse.ensures
 
 pub returns : goal.returns
 unfolding read_text

@@ -1,14 +1,14 @@
 -- The offset is tested; the rest is the reader on the whole buffer.
 use mathlib.Core.Path.{ap, ◌∙◌}
 use Rattle.meaning.specs.ReadValue.{read_sig}
-use Rattle.meaning.specs.declared.Checked.TheVariants.{Refused}
+use Rattle.std.specs.Prelude.{Err}
 use Rattle.meaning.specs.declared.Order.TheVariants.{Little}
 use Rattle.meaning.proofs.ValueLocal.{read_sig-local}
 use Rattle.util.proofs.Windows.{entry_past, entry-is, entry-outside}
 use Rattle.text.proofs.strings.unmarshal_signature_text.Goals as goal
 
 pub returns-then-buf-off : goal.returns-then-buf-off
-returns-then-buf-off c = λ o. ap Refused c.refuse.ensures ∙ entry-outside (read_sig o) _ _ c.if-buf-off.true
+returns-then-buf-off c = λ o. ap Err c.refuse.ensures ∙ entry-outside (read_sig o) _ _ c.if-buf-off.true
 
 pub taken_from-requires : goal.taken_from-requires
 taken_from-requires c =

@@ -1,7 +1,7 @@
 -- The offset is tested; the rest is the reader on the whole buffer.
 use mathlib.Core.Path.{ap, ◌∙◌}
 use Rattle.meaning.specs.ReadValue.{read_text}
-use Rattle.meaning.specs.declared.Checked.TheVariants.{Refused}
+use Rattle.std.specs.Prelude.{Err}
 use Rattle.meaning.proofs.ValueLocal.{read_text-local}
 use Rattle.util.proofs.Windows.{entry_past, entry-is, entry-outside}
 use Rattle.text.proofs.strings.unmarshal_str.Goals as goal
@@ -12,7 +12,7 @@ taken_from-requires c =
     entry_past (read_text a.order) (read_text-local a.order).bound a.buf.now a.offset.0 _ c.if-buf-off.false c.read_string.ensures
 
 pub returns-then-buf-off : goal.returns-then-buf-off
-returns-then-buf-off c = ap Refused c.refuse.ensures ∙ entry-outside (read_text c.args.order) _ _ c.if-buf-off.true
+returns-then-buf-off c = ap Err c.refuse.ensures ∙ entry-outside (read_text c.args.order) _ _ c.if-buf-off.true
 
 pub returns : goal.returns
 returns c = c.taken_from.ensures ∙ entry-is (read_text c.args.order) _ _ _ c.if-buf-off.false c.read_string.ensures

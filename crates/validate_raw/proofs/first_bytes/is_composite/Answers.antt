@@ -1,21 +1,14 @@
--- Each code is tested for in turn.
+-- The codes are those of the definition.
+use mathlib.Core.Logic.{⊎_elim}
 use mathlib.Core.Path.{refl}
-use borrow.Author.Tests.{ne_eqb}
+use Rattle.std.proofs.Common.{rules, tests}
 use Rattle.validate_raw.specs.FirstBytes.{composite}
 use Rattle.validate_raw.proofs.first_bytes.is_composite.Goals as goal
 
-pub returns-then-k-eq97 : goal.returns-then-k-eq97
+pub returns-in-97 : goal.returns-in-97
 unfolding composite
-returns-then-k-eq97 c = rw c.if-k-eq97.true refl
+returns-in-97 c = ⊎_elim (λ e. rw e refl) (⊎_elim (λ e. rw e refl) (⊎_elim (λ e. rw e refl) (λ e. rw e refl))) c.in-97.is
 
-pub returns-then-k-eq40 : goal.returns-then-k-eq40
+pub returns-in_default : goal.returns-in_default
 unfolding composite
-returns-then-k-eq40 c = rw c.if-k-eq40.true refl
-
-pub returns-then-k-eq123 : goal.returns-then-k-eq123
-unfolding composite
-returns-then-k-eq123 c = rw c.if-k-eq123.true refl
-
-pub returns-else-k-eq123 : goal.returns-else-k-eq123
-unfolding composite
-returns-else-k-eq123 c = simp (ne_eqb _ _ c.if-k-eq97.false, ne_eqb _ _ c.if-k-eq40.false, ne_eqb _ _ c.if-k-eq123.false)
+returns-in_default c = search (rules, tests)

@@ -3,7 +3,7 @@
 use Prim.Native.Nat.{ℕ, ◌-◌, ◌≤◌}
 use mathlib.Core.List.{List}
 use mathlib.Core.Path.{◌≡◌}
-use lib.ListN.{length, take}
+use lib.ListN.{length}
 use Rattle.meaning.specs.Types.{Ty}
 use Rattle.meaning.specs.Places.{TypeAt, FieldsAt}
 use Rattle.meaning.specs.ReadValue.{read_var}
@@ -15,46 +15,48 @@ use Rattle.validate_raw.proofs.walk.CycleLaws.{Rest}
 use Rattle.validate_raw.proofs.walk.+walk.Given as goal
 
 abbrev pub decreases-value : goal.decreases-value
-decreases-value l = measure l.left.levels (length l.sig.now - l.at.sig.0) (l.end - l.at.buf.0) 1
+decreases-value l = measure l.left.levels (length l.sig.now - l.at.sig.0) (length l.buf.now - l.at.buf.0) 1
 
 abbrev pub decreases-structure : goal.decreases-structure
-decreases-structure l = measure l.left.levels (length l.sig.now - l.at.sig.0) (l.end - l.at.buf.0) 0
+decreases-structure l = measure l.left.levels (length l.sig.now - l.at.sig.0) (length l.buf.now - l.at.buf.0) 0
 
 abbrev pub decreases-fields : goal.decreases-fields
-decreases-fields l = measure l.left.levels (length l.sig.now - l.at.sig.0) (l.end - l.at.buf.0) 2
+decreases-fields l = measure l.left.levels (length l.sig.now - l.at.sig.0) (length l.buf.now - l.at.buf.0) 2
 
 abbrev pub decreases-array : goal.decreases-array
-decreases-array l = measure l.left.levels (length l.sig.now - l.at.sig.0) (l.end - l.at.buf.0) 0
+decreases-array l = measure l.left.levels (length l.sig.now - l.at.sig.0) (length l.buf.now - l.at.buf.0) 0
 
 abbrev pub decreases-elements : goal.decreases-elements
-decreases-elements l = measure l.left.levels (length l.sig.now - l.at.sig.0) (l.stop - l.at.buf.0) 4
+decreases-elements l = measure l.left.levels (length l.sig.now - l.at.sig.0) (length l.buf.now - l.at.buf.0) 4
 
 abbrev pub decreases-composites : goal.decreases-composites
-decreases-composites l = measure l.left.levels (length l.sig.now - l.at.sig.0) (l.stop - l.at.buf.0) 3
+decreases-composites l = measure l.left.levels (length l.sig.now - l.at.sig.0) (length l.buf.now - l.at.buf.0) 3
 
 abbrev pub decreases-element : goal.decreases-element
-decreases-element l = measure l.left.levels (length l.sig.now - l.at.sig.0) (l.end - l.at.buf.0) 2
+decreases-element l = measure l.left.levels (length l.sig.now - l.at.sig.0) (length l.buf.now - l.at.buf.0) 2
 
 abbrev pub decreases-entry : goal.decreases-entry
-decreases-entry l = measure l.left.levels (length l.sig.now - l.at.sig.0) (l.end - l.at.buf.0) 1
+decreases-entry l = measure l.left.levels (length l.sig.now - l.at.sig.0) (length l.buf.now - l.at.buf.0) 1
 
 abbrev pub decreases-variant : goal.decreases-variant
-decreases-variant l = measure l.left.levels 0 (l.end - l.off) 0
+decreases-variant l = measure l.left.levels 0 (length l.buf.now - l.off) 0
 
-abbrev pub invariant-composites-loop-done : goal.invariant-composites-loop-done
-invariant-composites-loop-done l =
-    (l.first ≤ l.done) × (l.done ≤ l.stop)
+abbrev pub invariant-composites-loop-past : goal.invariant-composites-loop-past
+invariant-composites-loop-past l =
+    (l.first ≤ l.past.buf.0) × (l.past.buf.0 ≤ length l.buf)
     × ((u : Ty) (e : ℕ) → TypeAt u l.sig l.i e
-    → Onward (item_r l.order (read_var l.order l.left.levels) (item_of u)) (take l.stop l.buf) (l.stop - l.first) l.first l.done × ((l.done ≡ l.first → ⊥) → l.next ≡ e))
+    → Onward (item_r l.order (read_var l.order l.left.levels) (item_of u)) l.buf (length l.buf - l.first) l.first l.past.buf.0
+    × ((l.past.buf.0 ≡ l.first → ⊥) → l.past.sig.0 ≡ e))
 
-abbrev pub decreases-composites-loop-done : goal.decreases-composites-loop-done
-decreases-composites-loop-done l = l.stop - l.done
+abbrev pub decreases-composites-loop-past : goal.decreases-composites-loop-past
+decreases-composites-loop-past l = length l.buf - l.past.buf.0
 
 abbrev pub invariant-fields-loop-order : goal.invariant-fields-loop-order
 invariant-fields-loop-order l =
-    (l.initial.i ≤ l.i) × (l.initial.o ≤ l.o) × (l.o ≤ l.end)
-    × ((ts : List Ty) (e : ℕ) → FieldsAt ts l.sig l.initial.i e
-    → Rest l.order l.left.levels l.sig (take l.end l.buf) e (walked_to e (fields_to l.order (read_var l.order l.left.levels) ts (take l.end l.buf) l.initial.o)) l.i l.o)
+    (l.initial.here.sig.0 ≤ l.here.sig.0) × (l.initial.here.buf.0 ≤ l.here.buf.0) × (l.here.buf.0 ≤ length l.buf)
+    × ((ts : List Ty) (e : ℕ) → FieldsAt ts l.sig l.initial.here.sig.0 e
+    → Rest l.order l.left.levels l.sig l.buf e
+    (walked_to e (fields_to l.order (read_var l.order l.left.levels) ts l.buf l.initial.here.buf.0)) l.here.sig.0 l.here.buf.0)
 
 abbrev pub decreases-fields-loop-order : goal.decreases-fields-loop-order
-decreases-fields-loop-order l = length l.sig - l.i
+decreases-fields-loop-order l = length l.sig - l.here.sig.0

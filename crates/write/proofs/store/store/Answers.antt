@@ -1,32 +1,18 @@
--- Each width and order has its own function, and one byte is the same in both orders.
+-- The bytes that are copied are the number's.
+use Prim.Native.Nat.{◌≤◌}
 use native.Mathlib.Omega.{arith}
-use Rattle.util.proofs.Pads.{is_one}
-use Rattle.write.proofs.store.Stores.{single-byte}
+use Rattle.std.proofs.lemmas.Grind.{common_steps}
+use Rattle.write.proofs.store.Stores.{little_bytes, big_bytes}
 use Rattle.write.proofs.store.store.Goals as goal
 
-pub bounds-buf-at : goal.bounds-buf-at
-bounds-buf-at c = omega (arith, is_one _ c.requires.1 c.if-width-eq8.false c.if-width-eq4.false c.if-width-eq2.false)
-
 pub returns-in-Little : goal.returns-in-Little
-returns-in-Little c = rw (c.if-width-eq8.true, c.in-Little.is) c.little64.ensures
+returns-in-Little c =
+    let a = c.args in
+    let small : a.width ≤ 8 = grind (arith, common_steps) in
+    rw (c.in-Little.is, ← little_bytes a.width a.x small, ← c.to_le_bytes.ensures) c.copy.ensures
 
 pub returns-in-Big : goal.returns-in-Big
-returns-in-Big c = rw (c.if-width-eq8.true, c.in-Big.is) c.big64.ensures
-
-pub returns-in-Little-order : goal.returns-in-Little-order
-returns-in-Little-order c = rw (c.if-width-eq4.true, c.in-Little-order.is) c.little32.ensures
-
-pub returns-in-Big-order : goal.returns-in-Big-order
-returns-in-Big-order c = rw (c.if-width-eq4.true, c.in-Big-order.is) c.big32.ensures
-
-pub returns-in-Little-order-2 : goal.returns-in-Little-order-2
-returns-in-Little-order-2 c = rw (c.if-width-eq2.true, c.in-Little-order-2.is) c.little16.ensures
-
-pub returns-in-Big-order-2 : goal.returns-in-Big-order-2
-returns-in-Big-order-2 c = rw (c.if-width-eq2.true, c.in-Big-order-2.is) c.big16.ensures
-
-pub returns-else-width-eq2 : goal.returns-else-width-eq2
-returns-else-width-eq2 c =
-    let asked = c.requires in
-    let if1 = c.if-width-eq8 in
-    rw (is_one _ asked.1 if1.false c.if-width-eq4.false c.if-width-eq2.false, c.low.ensures) (single-byte _ _ _ _)
+returns-in-Big c =
+    let a = c.args in
+    let small : a.width ≤ 8 = grind (arith, common_steps) in
+    rw (c.in-Big.is, ← big_bytes a.width a.x small, ← c.to_be_bytes.ensures) c.copy-in-Big.ensures

@@ -1,8 +1,0 @@
--- By the case of the answer.
-use Rattle.answer_text.proofs.header_text.header.Goals as goal
-
-pub returns-in-Read : goal.returns-in-Read
-returns-in-Read c = rw c.in-Read.is c.whole.ensures
-
-pub returns-in-Refused : goal.returns-in-Refused
-returns-in-Refused c = rw c.in-Refused.is c.refused.ensures

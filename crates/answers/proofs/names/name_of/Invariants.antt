@@ -1,9 +1,0 @@
--- A turn for each byte of the word.
-use Rattle.std.proofs.Common.{◌-◌, ◌≤◌, length}
-use Rattle.answers.proofs.names.name_of.Given as goal
-
-abbrev pub invariant-loop-i : goal.invariant-loop-i
-invariant-loop-i l = l.i ≤ length l.word
-
-abbrev pub decreases-loop-i : goal.decreases-loop-i
-decreases-loop-i l = length l.word - l.i

@@ -1,0 +1,9 @@
+-- Eight bytes, of which those that are not read are zero, make the number that was read.
+use native.Mathlib.Omega.{arith}
+use Rattle.util.proofs.integers.Loads.{is-big}
+use Rattle.util.proofs.integers.big.Goals as goal
+
+pub returns : goal.returns
+returns g c =
+    let asked = c.requires in
+    is-big g.row.N _ _ _ _ asked.1 asked.0 (λ i. omega (arith, c.type_inv.buf i)) c.copy_from_slice.ensures.after c.from_be_bytes.ensures
