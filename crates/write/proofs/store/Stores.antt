@@ -1,17 +1,18 @@
 -- What a copy into a part of the buffer leaves; and the library's bytes of a number, which are in either order those that the meaning names.
-use Prim.Native.Nat.{ℕ, zero, suc, ◌+◌, ◌-◌, ◌/◌, ◌%◌, ◌^◌, ◌≤◌}
+use Prim.Native.Nat.{ℕ, zero, suc, ◌+◌, ◌-◌, ◌*◌, ◌/◌, ◌%◌, ◌^◌, ◌≤◌, ◌<◌}
 use native.Mathlib.Omega.{arith}
 use native.Mathlib.Nat.{pow-suc, pow-zero, div-one, div-div-eq-div-mul, mul_comm, suc-add, zero-add}
 use native.Mathlib.Numerals.{add-one}
 use mathlib.Core.List.{List, [], ◌∷◌, ◌++◌, reverse, reverse-append}
 use mathlib.Core.Path.{◌≡◌, refl, ap, sym, ◌∙◌}
-use lib.ListN.{length, take, drop, set}
-use lib.Seq.{sets, sets-eq}
+use lib.ListN.{length, take, drop, set, get_or, length-drop}
+use lib.Seq.{sets, sets-eq, length-take-le}
 use borrow.Rule.Slice.PartMut.{put_mid}
 use mir.Syntax.{w64}
 use Rattle.std.specs.Int.{byte_at, bytes_low_first, bytes_high_first, to_le_bytes, to_be_bytes}
 use Rattle.std.proofs.Common.{append_assoc}
-use Rattle.std.proofs.lemmas.List.{drop-drop, take_at, drop_at, take_all, length-reverse}
+use Rattle.std.specs.Simd.{first_chunks}
+use Rattle.std.proofs.lemmas.List.{drop-drop, take_at, drop_at, take_all, length-reverse, take-append-drop}
 use Rattle.meaning.specs.Number.{digits, store}
 use Rattle.meaning.proofs.NumberLaws.{length-store}
 use Rattle.meaning.specs.declared.Order.{Order}
@@ -30,6 +31,30 @@ sets-append l [] ys at = let e : at + 0 ≡ at = omega arith in rw e
 sets-append l (x ∷ xs) ys at =
     let e : at + suc (length xs) ≡ suc at + length xs = omega arith in
     rw e (sets-append (set l at x) xs ys (suc at))
+
+-- the chunks of eight that the library takes a slice apart into
+chunk_at : (s : List ℕ) (k i : ℕ) → i < k → get_or (first_chunks 8 k s) i [] ≡ take 8 (drop (8 * i) s)
+chunk_at s zero i h = absurd (omega arith)
+chunk_at s (suc k) zero h = refl
+chunk_at s (suc k) (suc i) h =
+    let at : 8 * suc i ≡ 8 + 8 * i = omega arith in
+    chunk_at (drop 8 s) k i (omega arith) ∙ rw (drop-drop, at)
+
+-- one turn of a loop: what is left to store is a chunk shorter
+pub chunk-turn : (l e m s : List ℕ) (cs : List (List ℕ)) (at i : ℕ) → cs ≡ first_chunks 8 (length s / 8) s → i < length s / 8
+    → m ≡ sets l at (get_or cs i []) → sets l at (drop (8 * i) s) ≡ e → sets m (at + 8) (drop (8 * (i + 1)) s) ≡ e
+chunk-turn l e m s cs at i front h q p =
+    let left = drop (8 * i) s in
+    let more = drop (8 * (i + 1)) s in
+    let here : get_or cs i [] ≡ take 8 left = rw front (chunk_at s (length s / 8) i h) in
+    let next : drop 8 left ≡ more = let a : 8 * i + 8 ≡ 8 * (i + 1) = omega arith in rw (drop-drop, a) refl in
+    let long : length (take 8 left) ≡ 8 = length-take-le 8 left (rw length-drop (omega arith)) in
+    let whole : take 8 left ++ more ≡ left = ap (λ (r : List ℕ). take 8 left ++ r) (sym next) ∙ take-append-drop 8 left in
+    ap (λ (b : List ℕ). sets b (at + 8) more) (q ∙ ap (sets l at) here)
+    ∙ ap (λ (k : ℕ). sets (sets l at (take 8 left)) (at + k) more) (sym long)
+    ∙ sym (sets-append l (take 8 left) more at)
+    ∙ ap (sets l at) whole
+    ∙ p
 
 digits-add : (m n x : ℕ) → digits (m + n) x ≡ digits m x ++ digits n (x / 256 ^ m)
 unfolding digits
