@@ -19,5 +19,5 @@ mod questions;
 use std::io;
 
 fn main(rt: HostRuntime) -> io::Result<()> {
-    input::answer_input(&rt, rt.stdin())
+    input::answer_input(&rt, &mut rt.stdin())
 }

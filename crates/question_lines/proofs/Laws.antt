@@ -1,22 +1,22 @@
--- What the answers of this crate cite: of a search, of decimal numbers, and of pairs of digits.
+-- What the answers of this crate cite: of a search, of the words of a line, of decimal numbers, and of pairs of digits.
 use Rattle.std.proofs.Common.{◌≡◌, ℕ, zero, suc, ◌+◌, ◌-◌, ◌*◌, ◌/◌, ◌%◌, ◌^◌, ◌≤◌, ◌<◌, Bool, true, false, not, cond, ltb, leb, eqb}
-use Rattle.std.proofs.Common.{List, [], ◌∷◌, Option, Some, None, length, take, drop, get_or, set, inl, inr, refl, ap, sym, ◌∙◌, arith}
-use Rattle.std.proofs.Common.{zero-add, add-one, length-drop, length-take-le, drop-drop, get_or-take, get_or-drop, ltb-true, leb-true, le-ltb, lt-ltb, ne_eqb}
+use Rattle.std.proofs.Common.{List, [], ◌∷◌, ◌++◌, map, Option, Some, None, length, take, drop, get_or, set, inl, inr, refl, ap, sym, ◌∙◌, arith}
+use Rattle.std.proofs.Common.{append_assoc, eq-eqb, take_all, zero-add, add-one, length-drop, length-take-le, drop-drop, get_or-take, get_or-drop, ltb-true, leb-true, le-ltb, lt-ltb, ne_eqb}
 use Rattle.std.specs.Char.{digit_value}
 use Rattle.std.specs.List.{between, position, copy_within}
 use Rattle.std.specs.Simd.{first_chunks}
 use Rattle.std.proofs.Math.Seq.{take-length, length-sets}
 use Rattle.std.proofs.lemmas.Bool.{cases_eq}
 use Rattle.std.proofs.lemmas.Bool.Decides.{Decides-eqb, nat_tests}
-use Rattle.std.proofs.lemmas.List.{drop_more, at_drop_more, at_drop_all}
+use Rattle.std.proofs.lemmas.List.{append-nil, drop_all, drop_more, map_push, take_more_set, at_drop_more, at_drop_all}
 use Rattle.std.proofs.lemmas.List.Edits.{sets, sets-eq}
-use Rattle.std.proofs.lemmas.List.Sums.{prefix_len-le-length, AllPass-from_list_all}
+use Rattle.std.proofs.lemmas.List.Sums.{prefix_len-le-length, sum_by-cons, AllPass-from_list_all}
 use Rattle.std.proofs.lemmas.Option.{cond_some}
 use Rattle.std.proofs.lemmas.Slice.{between_from_start}
 use Rattle.std.proofs.lemmas.Slice.Eq.{slice_eq-Decides}
 use Rattle.std.specs.Cmp.Lexicographic.{pointwise}
 use Rattle.question_lines.specs.Digits.{digit_of, all_digits, value_from, pairs}
-use Rattle.question_lines.specs.Words.{index_of, number_of, Took, unless, taken_of, moved_down}
+use Rattle.question_lines.specs.Words.{index_of, word_end, occurrences, words_of, number_of, Took, unless, taken_of, moved_down}
 
 -- what a search finds, and where it finds nothing
 pub found_at : (b : ℕ) (s : List ℕ) (i : ℕ) → position (λ x. eqb x b) s ≡ Some i → index_of b s ≡ i
@@ -30,6 +30,60 @@ found_none b s p =
 -- a search of all of a slice
 pub found : (b : ℕ) (s : List ℕ) (r : ℕ) → r ≡ 0 + index_of b (between 0 (length s) s) → r ≡ index_of b s
 found b s r p = p ∙ rw (zero-add, between_from_start, take-length)
+
+gap_here : (b c : ℕ) (cs : List ℕ) → c ≡ b → occurrences b (c ∷ cs) ≡ 1 + occurrences b cs
+gap_here b c cs same = sum_by-cons (λ x. cond (eqb x b) 1 0) c cs ∙ rw (eq-eqb c b same)
+
+no_gap_here : (b c : ℕ) (cs : List ℕ) → (c ≡ b → ⊥) → occurrences b (c ∷ cs) ≡ occurrences b cs
+no_gap_here b c cs other = sum_by-cons (λ x. cond (eqb x b) 1 0) c cs ∙ rw (ne_eqb c b other, zero-add)
+
+-- a text without the byte is searched to its end
+no_gap : (b : ℕ) (s : List ℕ) → occurrences b s ≡ 0 → index_of b s ≡ length s
+no_gap b [] h = refl
+no_gap b (c ∷ cs) h = elim (cases_eq c b) [
+  | inl same ↦ absurd (omega (arith, h, gap_here b c cs same))
+  | inr other ↦ rw (ne_eqb c b other) (omega (arith, no_gap b cs (sym (no_gap_here b c cs other) ∙ h)))
+]
+
+-- the last word of a line is what is left of it
+pub last_word : (s : List ℕ) → occurrences 32 s ≡ 0 → (s ≡ take (word_end s) s) × ([] ≡ drop (word_end s + 1) s)
+last_word s h =
+    let end : word_end s ≡ length s = no_gap 32 s h in
+    (sym (take_all (word_end s) s (omega arith)), sym (drop_all (word_end s + 1) s (omega arith)))
+
+-- behind the first of the bytes there is one fewer
+pub one_gap_less : (b : ℕ) (s : List ℕ) → occurrences b (drop (index_of b s + 1) s) ≡ occurrences b s - 1
+one_gap_less b [] = refl
+one_gap_less b (c ∷ cs) = elim (cases_eq c b) [
+  | inl same ↦
+      let front : index_of b (c ∷ cs) ≡ 0 = rw (eq-eqb c b same) in
+      let rest : occurrences b cs ≡ occurrences b (c ∷ cs) - 1 = omega (arith, gap_here b c cs same) in
+      ap (λ i. occurrences b (drop (i + 1) (c ∷ cs))) front ∙ rest
+  | inr other ↦
+      let place : index_of b (c ∷ cs) + 1 ≡ suc (index_of b cs + 1) = rw (ne_eqb c b other) (omega arith) in
+      let rest : occurrences b (drop (index_of b cs + 1) cs) ≡ occurrences b (c ∷ cs) - 1 =
+      one_gap_less b cs ∙ ap (λ n. n - 1) (sym (no_gap_here b c cs other)) in
+      ap (λ i. occurrences b (drop i (c ∷ cs))) place ∙ rest
+]
+
+-- one word more
+pub words-turn : {X : Type 0} (text : X → List ℕ) (ws : List X) (w : X) (n i : ℕ) (s rest : List ℕ) (all : List (List ℕ))
+    → i < n → length ws ≡ n → text w ≡ take (word_end s) s → rest ≡ drop (word_end s + 1) s
+    → map text (take i ws) ++ words_of (n - i) s ≡ all → map text (take (i + 1) (set ws i w)) ++ words_of (n - (i + 1)) rest ≡ all
+unfolding words_of
+words-turn text ws w n i s rest all h long word behind so_far =
+    let left : n - i ≡ suc (n - (i + 1)) = omega arith in
+    let part : words_of (n - i) s ≡ text w ∷ words_of (n - (i + 1)) rest = rw (left, word, behind) in
+    let put : take (i + 1) (set ws i w) ≡ take i ws ++ w ∷ [] = take_more_set ws i w (omega arith) in
+    rw (put, map_push text (take i ws) w, append_assoc) (rw part at so_far)
+
+pub words-all : {X : Type 0} (text : X → List ℕ) (ws : List X) (n i : ℕ) (s : List ℕ) (all : List (List ℕ))
+    → i ≡ n → length ws ≡ n → map text (take i ws) ++ words_of (n - i) s ≡ all → map text ws ≡ all
+unfolding words_of
+words-all text ws n i s all done long so_far =
+    let none : n - i ≡ 0 = omega arith in
+    let whole : take i ws ≡ ws = take_all i ws (omega arith) in
+    sym (append-nil (map text ws)) ∙ rw (none, whole) at so_far
 
 -- the library's copy to the front
 pub moved : (s : List ℕ) (from to : ℕ) → from ≤ to → to ≤ length s → copy_within s from to 0 ≡ moved_down from to s

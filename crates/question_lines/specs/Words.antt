@@ -1,5 +1,5 @@
 -- The words of a line, and what a word gives as a number or as bytes.
-use Rattle.std.specs.Prelude.{ℕ, ◌-◌, ◌/◌, ◌%◌, ◌^◌, Bool, true, false, cond, List, length, take, drop, get_or, leb, ltb, eqb, Option, Some, None, count_by}
+use Rattle.std.specs.Prelude.{ℕ, zero, suc, ◌+◌, ◌-◌, ◌/◌, ◌%◌, ◌^◌, Bool, true, false, cond, List, [], ◌∷◌, length, take, drop, get_or, leb, ltb, eqb, Option, Some, None, count_by}
 use Rattle.std.proofs.lemmas.List.Edits.{sets}
 use Rattle.std.specs.List.{position_or_len}
 use Rattle.question_lines.specs.Digits.{all_digits, value_from, pairs}
@@ -15,6 +15,11 @@ word_end s = index_of 32 s
 -- how many of the bytes are this one
 abbrev pub occurrences : ℕ → List ℕ → ℕ
 occurrences b s = count_by (λ x. eqb x b) s
+
+-- the first words of a line, as many as are asked for: each goes up to a space or the end, the next begins behind that space, and past the end each is empty
+unfoldable pub words_of : ℕ → List ℕ → List (List ℕ)
+words_of zero s = []
+words_of (suc n) s = take (word_end s) s ∷ words_of n (drop (word_end s + 1) s)
 
 -- one or more decimal digits that spell a number below 2 ^ 64
 unfoldable pub number_of : List ℕ → Option ℕ

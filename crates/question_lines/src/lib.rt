@@ -1,12 +1,12 @@
 // What programs do with their input: a line of text taken apart into words, numbers and bytes in hexadecimal, and the parts of a buffer.
 #![tactic(auto)]
 
-ghost use Rattle.std.specs.Prelude.{◌≡◌, true, cond, ◌+◌, ◌/◌, ◌%◌, ◌≤◌, ◌<◌, Some, None, ltb, length, drop, take, IfOk};
+ghost use Rattle.std.specs.Prelude.{◌≡◌, true, cond, ◌+◌, ◌/◌, ◌%◌, ◌≤◌, ◌<◌, Some, None, ltb, length, drop, take, map, IfOk};
 ghost use Rattle.std.specs.Io.KnownBytes.{Consumes, IsAtEnd};
 ghost use Rattle.std.specs.List.{between};
 ghost use Rattle.std.proofs.lemmas.List.Edits.{sets};
 ghost use Rattle.question_lines.specs.Digits.{digit_of, all_digits, pairs};
-ghost use Rattle.question_lines.specs.Words.{index_of, word_end, occurrences, number_of, taken_of, moved_down};
+ghost use Rattle.question_lines.specs.Words.{index_of, word_end, occurrences, words_of, number_of, taken_of, moved_down};
 
 use std::io;
 use std::io::Read;
@@ -69,6 +69,39 @@ pub fn count(s: &[u8], b: u8) -> usize
     ensures { result ≡ occurrences b s.now }
 {
     s.iter().filter(|x| **x == b).count()
+}
+
+// The first word, and what follows the space behind it, of a text with so many spaces. One with none is a word as it is, so that a long word is
+// not searched again.
+fn split_word(s: &[u8], gaps: usize) -> (&[u8], &[u8])
+    requires { gaps ≡ occurrences 32 s.now }
+    ensures word { result.0.now ≡ take (word_end s.now) s.now }
+    ensures rest { result.1.now ≡ drop (word_end s.now + 1) s.now }
+{
+    if gaps == 0 {
+        (s, first(s, 0))
+    } else {
+        (head(s), tail(s))
+    }
+}
+
+// So many words of a line are given. No question has more than five, and where its answer is told, an arrow and up to three words stand behind it.
+pub const WORDS: usize = 9;
+
+// The first words of a line, and how many words it has: one more than spaces. Past the last word each is empty.
+pub fn words(line: &[u8]) -> ([&[u8]; WORDS], usize)
+    ensures words { map (λ w. w.now) result.0 ≡ words_of WORDS line.now }
+    ensures number { result.1 ≡ occurrences 32 line.now + 1 }
+{
+    let gaps = count(line, b' ');
+    let mut words = [first(line, 0); WORDS];
+    let mut rest = line;
+    for i in 0..WORDS {
+        let (word, behind) = split_word(rest, gaps.saturating_sub(i));
+        words[i] = word;
+        rest = behind;
+    }
+    (words, gaps + 1)
 }
 
 // What a digit stands for, up to 15 for `f`.

@@ -6,13 +6,12 @@
 #![tactic(auto)]
 
 use meaning::{Length, Order, Place, Refusal};
-use std::alloc::{AllocError, Global};
+use question_lines::WORDS;
 use std::io;
-use std::io::Read;
 use unmarshal::check_message;
 
 // How much of the input is read.
-const INPUT: u64 = 393216;
+const INPUT: usize = 393_216;
 
 // How many bytes a word spells at most.
 const BYTES: usize = 1024;
@@ -96,19 +95,30 @@ fn is_same(words: &[&[u8]]) -> bool {
     }
 }
 
-fn replay_line(alloc: Global, line: &[u8]) -> Result<&'static str, AllocError> {
-    let words: Vec<&[u8]> = line.split(|b| *b == b' ').collect(alloc)?;
-    Ok(if is_same(&words) { "same" } else { "differs" })
+fn replay_line(line: &[u8]) -> &'static [u8] {
+    let (words, count) = question_lines::words(line);
+    if is_same(&words[..count.min(WORDS)]) {
+        b"same\n"
+    } else {
+        b"differs\n"
+    }
+}
+
+// A line that does not end is none.
+fn replay_lines(rt: &impl Print, input: &[u8]) -> io::Result<()> {
+    let mut start = 0;
+    let mut end = question_lines::find(input, 0, input.len(), b'\n');
+    // a `while`: each turn goes on where the line before has ended
+    while end < input.len() {
+        rt.write_all(replay_line(&input[start..end]))?;
+        start = end + 1;
+        end = question_lines::find(input, start, input.len(), b'\n');
+    }
+    Ok(())
 }
 
 fn main(rt: HostRuntime) -> io::Result<()> {
-    let mut input = Vec::new(rt.alloc());
-    rt.stdin().take(INPUT).read_to_end(&mut input)?;
-    // a line that does not end is none
-    for line in input.split_inclusive(|b| *b == b'\n') {
-        if let Some(line) = line.strip_suffix(b"\n") {
-            println!(rt; "{}", replay_line(rt.alloc(), line)?)?;
-        }
-    }
-    Ok(())
+    let mut input = vec![in rt.alloc(); 0u8; INPUT]?;
+    let n = question_lines::read_full(&mut rt.stdin(), &mut input)?;
+    replay_lines(&rt, question_lines::first(&input, n))
 }

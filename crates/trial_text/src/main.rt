@@ -8,12 +8,11 @@ ghost use Rattle.std.specs.Prelude.{◌≤◌, length};
 
 use meaning::{Length, Order, Place, Refusal};
 use std::io;
-use std::io::{BufRead, BufReader, Read};
 use text::{BadText, strings};
 use util::integers;
 
 // How much of the input is read.
-const INPUT: u64 = 65536;
+const INPUT: usize = 65_536;
 
 // How many bytes a case has at most.
 const BYTES: usize = 64;
@@ -130,11 +129,22 @@ fn case(rt: &impl Print, line: &[u8]) -> io::Result<()> {
     run(rt, kind, question_lines::first(&bytes, n))
 }
 
-fn main(rt: HostRuntime) -> io::Result<()> {
-    let input = BufReader::new(rt.alloc(), rt.stdin().take(INPUT))?;
-    for line in input.split(rt.alloc(), b'\n') {
-        case(&rt, &line?)?;
+// The last case may be without a line end, but not empty.
+fn cases(rt: &impl Print, input: &[u8]) -> io::Result<()> {
+    let mut start = 0;
+    // a `while`: each turn goes on where the case before has ended
+    while start < input.len() {
+        let end = question_lines::find(input, start, input.len(), b'\n');
+        case(rt, &input[start..end])?;
         rt.print("\n")?;
+        start = end + 1;
     }
     Ok(())
+}
+
+// All of the input is read before anything is written.
+fn main(rt: HostRuntime) -> io::Result<()> {
+    let mut input = [0u8; INPUT];
+    let n = question_lines::read_full(&mut rt.stdin(), &mut input)?;
+    cases(&rt, question_lines::first(&input, n))
 }
