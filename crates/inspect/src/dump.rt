@@ -1,7 +1,7 @@
 // The bytes around a place, sixteen a row, with the byte at the place in brackets.
 ghost use Rattle.std.specs.Prelude.{◌≤◌, length};
 
-use crate::shown::Letters;
+use crate::shown::{Letters, part};
 use std::io::Write;
 use std::{fmt, io};
 
@@ -42,7 +42,7 @@ impl fmt::Display for Row<'_> {
     }
 }
 
-// Up to `most` rows from `start` on, as far as `last`.
+// Up to `most` rows from `start` on, as far as `last`, which lies in the message or right behind it.
 fn rows(
     out: &mut impl Write,
     message: &[u8],
@@ -57,11 +57,10 @@ fn rows(
     let count = most.min((last - start) / WIDTH + 1);
     for k in 0..count {
         let from = start + k * WIDTH;
-        let rest = &message[from..];
         let row = Row {
             from,
             place: first.wrapping_add(from as u64),
-            bytes: &rest[..WIDTH.min(rest.len())],
+            bytes: part(&message[from..], 0, WIDTH),
             mark: mark.checked_sub(from).filter(|k| *k < WIDTH),
         };
         writeln!(out, "{row}")?;

@@ -1,5 +1,5 @@
 // Bytes of a message as a terminal can show them.
-ghost use Rattle.std.specs.Prelude.{◌≡◌, ◌+◌, ◌<◌, ◌≤◌, ℕ, List, [], ◌∷◌, ◌++◌, length, take, IsAscii, IsTrue};
+ghost use Rattle.std.specs.Prelude.{◌≡◌, ◌+◌, ◌<◌, ◌≤◌, ℕ, List, [], ◌++◌, length, take, IsAscii, IsTrue};
 
 use crate::words;
 use std::marker::Model;
@@ -38,7 +38,7 @@ fn digit(n: u8) -> u8
     if n < 10 { b'0' + n } else { b'a' + (n - 10) }
 }
 
-// ASCII text that is gathered to be put out at once, since a call for each byte costs more than the byte.
+// ASCII text that is gathered and put out at once: a writer takes longer over a call than over the bytes.
 #[derive(Drop)]
 struct Gathered {
     bytes: [u8; 256],
@@ -82,16 +82,17 @@ impl Gathered {
     fn room(&self) -> usize
         ensures { result + length self.now ≡ 256 }
     {
-        256 - self.end
+        self.bytes.len() - self.end
     }
 
-    fn push(&mut self, b: u8)
-        requires ascii { b < 128 }
-        requires room { length self.old < 256 }
-        ensures { self.new ≡ self.old ++ b ∷ [] }
+    fn push(&mut self, text: &[u8])
+        requires ascii { IsAscii text.now }
+        requires room { length self.old + length text.now ≤ 256 }
+        ensures { self.new ≡ self.old ++ text.now }
     {
-        self.bytes[self.end] = b;
-        self.end += 1;
+        let end = self.end + text.len();
+        self.bytes[self.end..end].copy_from_slice(text);
+        self.end = end;
     }
 
     // The byte where a terminal shows it as itself, and \x and two digits where not.
@@ -99,12 +100,9 @@ impl Gathered {
         requires { length self.old + 4 ≤ 256 }
     {
         if is_plain(b) && b != b'\\' {
-            self.push(b);
+            self.push(&[b]);
         } else {
-            self.push(b'\\');
-            self.push(b'x');
-            self.push(digit(b >> 4));
-            self.push(digit(b & 15));
+            self.push(&[b'\\', b'x', digit(b >> 4), digit(b & 15)]);
         }
     }
 }
@@ -117,6 +115,7 @@ impl fmt::Display for Escaped<'_> {
     fn fmt<W: fmt::Write>(&self, f: &mut fmt::Formatter<W>) -> fmt::Result {
         let mut gathered = Gathered::new();
         for b in self.0 {
+            // the longest that is shown of a byte has four
             if gathered.room() < 4 {
                 f.write_str(gathered.text())?;
                 gathered.clear();
