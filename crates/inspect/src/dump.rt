@@ -1,4 +1,6 @@
 // The bytes around a place, sixteen a row, with the byte at the place in brackets.
+ghost use Rattle.std.specs.Prelude.{◌≤◌, length};
+
 use crate::shown::{Letters, part};
 use std::io::Write;
 use std::{fmt, io};
@@ -40,6 +42,40 @@ impl fmt::Display for Row<'_> {
     }
 }
 
+// Up to `most` rows from `start` on, as far as `last`, which lies in the message or right behind it.
+fn rows(
+    out: &mut impl Write,
+    message: &[u8],
+    first: u64,
+    mark: usize,
+    start: usize,
+    last: usize,
+    most: usize,
+) -> io::Result<()>
+    requires { (start ≤ last) × (last ≤ length message.now) }
+{
+    let count = most.min((last - start) / WIDTH + 1);
+    for k in 0..count {
+        let from = start + k * WIDTH;
+        let row = Row {
+            from,
+            place: first.wrapping_add(from as u64),
+            bytes: part(&message[from..], 0, WIDTH),
+            mark: mark.checked_sub(from).filter(|k| *k < WIDTH),
+        };
+        writeln!(out, "{row}")?;
+    }
+    Ok(())
+}
+
+// The last byte to show: the message's last, or the place past it.
+fn last_of(size: usize, mark: usize) -> usize
+    requires { mark ≤ size }
+    ensures { (mark ≤ result) × (result ≤ size) }
+{
+    mark.max(size.saturating_sub(1))
+}
+
 // The rows around the byte at `place` of a message that begins at the byte `first` of the stream. A fault at the place 0 for which no other byte
 // is known may lie anywhere in the head, so more of that is shown.
 pub(crate) fn place(
@@ -49,22 +85,12 @@ pub(crate) fn place(
     place: usize,
 ) -> io::Result<()> {
     let mark = place.min(message.len());
+    let last = last_of(message.len(), mark);
     let (start, most) = if mark < 48 {
         (0, 12)
     } else {
         (mark / WIDTH * WIDTH - 32, 5)
     };
-    // the last byte to show: the message's last, or the place past it
-    let last = mark.max(message.len().saturating_sub(1));
     writeln!(out, "   message    stream")?;
-    for from in (start..=last).step_by(WIDTH).take(most) {
-        let row = Row {
-            from,
-            place: first.wrapping_add(from as u64),
-            bytes: part(message, from, WIDTH),
-            mark: mark.checked_sub(from).filter(|k| *k < WIDTH),
-        };
-        writeln!(out, "{row}")?;
-    }
-    Ok(())
+    rows(out, message, first, mark, start, last, most)
 }
