@@ -151,16 +151,14 @@ chunk_at s (suc k) (suc i) h =
     let at : 2 * suc i ≡ 2 + 2 * i = omega arith in
     chunk_at (drop 2 s) k i (omega arith) ∙ rw (drop-drop, at)
 
--- what `digit` says of a byte of a pair
-pub digit_of_pair : (s : List ℕ) (cs : List (List ℕ)) (i j k : ℕ) (r : Option ℕ)
+-- a byte of a pair is a digit
+pub pair-digit : (s : List ℕ) (cs : List (List ℕ)) (i j k : ℕ)
     → cs ≡ first_chunks 2 (length s / 2) s → i < length s / 2 → j < 2 → k ≡ 2 * i + j → all_digits 16 s ≡ true
-    → r ≡ cond (ltb (digit_of (get_or (get_or cs i []) j 0)) 16) (Some (digit_of (get_or (get_or cs i []) j 0))) None
-    → r ≡ Some (digit_of (get_or s k 0))
-digit_of_pair s cs i j k r front h two at digits e =
+    → (get_or (get_or cs i []) j 0 ≡ get_or s k 0) × (digit_of (get_or (get_or cs i []) j 0) < 16)
+pair-digit s cs i j k front h two at digits =
     let there : get_or (get_or cs i []) j 0 ≡ get_or s k 0 =
     rw (front, chunk_at s (length s / 2) i h, get_or-take 2 (drop (2 * i) s) j 0 two, at) (get_or-drop (2 * i) s j 0) in
-    let below : ltb (digit_of (get_or s k 0)) 16 ≡ true = lt-ltb _ _ (digit_at 16 s k digits (omega arith)) in
-    e ∙ rw (there, below)
+    (there, rw there (digit_at 16 s k digits (omega arith)))
 
 -- one pair is stored
 pub pairs-turn : (l e s : List ℕ) (i : ℕ) → 2 * i + 1 < length s → sets l i (pairs (drop (2 * i) s)) ≡ e
