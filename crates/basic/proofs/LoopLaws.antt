@@ -26,8 +26,8 @@ module _ {A : Type 0} (r : R A) (lr : Local r) (gr : Grows r) (b : List ℕ) whe
   pub refused : (n first o : ℕ) (q : Result Place Refusal) (x : Refusal) → Onward r b n first o → o < length b → q ≡ reached_of (r b o) → q ≡ Err x → Err x ≡ reached_of (many n r b first)
   refused n first o q x w h e k = sym (onward-refused r b n first o x w (omega arith) (refused-inv (r b o) x (sym e ∙ k)))
 
-  pub ended : (n first o : ℕ) → Onward r b n first o → length b ≤ o → Ok (record { 0 = o }) ≡ reached_of (many n r b first)
-  ended n first o w h = sym (onward-end r b n first o w (omega arith))
+  pub ended : (n first o z : ℕ) → Onward r b n first o → length b ≤ o → z ≡ o → Ok (record { 0 = z }) ≡ reached_of (many n r b first)
+  ended n first o z w h k = rw k (sym (onward-end r b n first o w (omega arith)))
 
   pub began : (first : ℕ) → first ≤ length b → Onward r b (length b - first) first first
   began first h = onward-start r b (length b - first) first (omega arith)

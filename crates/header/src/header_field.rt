@@ -1,5 +1,5 @@
 // One header field (unmarshal.rs): document 01, port order 5.
-ghost use Rattle.std.specs.Prelude.{◌≡◌, ◌≤◌, ℕ, length};
+ghost use Rattle.std.specs.Prelude.{◌≡◌, ◌≤◌, ℕ, length, take};
 ghost use Rattle.meaning.specs.Types.{Base, base, Raw};
 ghost use Rattle.meaning.specs.ReadValue.{base_r, and_r, read, read_var};
 ghost use Rattle.meaning.specs.Message.{exactly, wants};
@@ -126,14 +126,21 @@ fn content(order: Order, code: u8, buf: &[u8], off: usize) -> Result<FieldEntry,
     }
 }
 
-// The header field at `off`.
-pub fn unmarshal_header_field(order: Order, buf: &[u8], off: usize) -> Result<FieldEntry, Refusal>
-    requires { off ≤ length buf.now }
-    ensures { result ≡ field_to (field_r order buf.now off) }
+// The header field at `off`, of a table that ends at `end`. It is handed all of the message, and not the table alone, so that an edit can try a field
+// that goes on behind its table.
+pub fn unmarshal_header_field(
+    order: Order,
+    buf: &[u8],
+    end: usize,
+    off: usize,
+) -> Result<FieldEntry, Refusal>
+    requires { (off ≤ end) × (end ≤ length buf.now) }
+    ensures { result ≡ field_to (field_r order (take end buf.now) off) }
 {
-    let Place(at) = util::padded(buf, off, types::align(b'('))?;
-    if buf.len() <= at {
+    let table = &buf[..end];
+    let Place(at) = util::padded(table, off, types::align(b'('))?;
+    if end <= at {
         return Err(meaning::refuse(Fault::NotEnoughBytes, 0));
     }
-    content(order, buf[at], buf, at + 1)
+    content(order, table[at], table, at + 1)
 }

@@ -1,5 +1,5 @@
 // The table of header fields (unmarshal.rs): document 01, port order 5.
-ghost use Rattle.std.specs.Prelude.{◌≡◌, ◌&&◌, ◌-◌, ◌≤◌, length};
+ghost use Rattle.std.specs.Prelude.{◌≡◌, ◌&&◌, ◌-◌, ◌≤◌, length, take};
 ghost use Rattle.header.specs.HeaderFields.{first_of, present, once, fields_r, by_code, table_to};
 
 use crate::header_field;
@@ -66,15 +66,16 @@ fn by_code(seen: &[Seen; 10]) -> Fields
     }
 }
 
-// The header fields from `first` to the end: the nine entries. Each code is its own place in `seen`.
+// The header fields from `first` to `end`: the nine entries. Each code is its own place in `seen`.
 pub fn unmarshal_header_fields(
     order: Order,
     kind: MessageType,
     buf: &[u8],
+    end: usize,
     first: usize,
 ) -> Result<Fields, Refusal>
-    requires { first ≤ length buf.now }
-    ensures { result ≡ table_to order first (fields_r order kind (length buf.now - first) buf.now first) }
+    requires { (first ≤ end) × (end ≤ length buf.now) }
+    ensures { result ≡ table_to order first (fields_r order kind (end - first) (take end buf.now) first) }
 {
     let none = Seen {
         count: 0,
@@ -82,8 +83,8 @@ pub fn unmarshal_header_fields(
     };
     let mut seen = [none; 10];
     let mut at = first;
-    while at < buf.len() {
-        let field = header_field::unmarshal_header_field(order, buf, at)?;
+    while at < end {
+        let field = header_field::unmarshal_header_field(order, buf, end, at)?;
         if let Some(kept) = field.kept {
             let old = seen[kept.code];
             seen[kept.code] = Seen {

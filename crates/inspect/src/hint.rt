@@ -70,7 +70,7 @@ fn field_at(order: Order, message: &[u8], end: usize, at: usize) -> Result<Known
     requires { (at ≤ end) × (end ≤ length message.now) }
     ensures { IfOk result (λ known. (at < known.next) × (known.next ≤ end)) }
 {
-    match header_field::unmarshal_header_field(order, &message[..end], at) {
+    match header_field::unmarshal_header_field(order, message, end, at) {
         Ok(field) => {
             let Place(next) = field.next;
             if at < next && next <= end {

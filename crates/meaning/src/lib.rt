@@ -131,7 +131,7 @@ pub fn number(f: Fault) -> u8
     f as u8
 }
 
-// Every refusal of the library is made here.
+// Every refusal of the library is made here, but for the two of `wire`.
 pub fn refuse(fault: Fault, at: usize) -> Refusal
     ensures { result ≡ refusal fault at }
 {

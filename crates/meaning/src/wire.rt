@@ -1,9 +1,10 @@
 // What a message's first two bytes stand for: the mark of its byte order, and the number of its type. What stands for neither is refused at the
-// message's start, as all is that stands before a body's values.
+// message's start, as all is that stands before a body's values. Both refusals are written out: as no function of this crate rests on what `refuse`
+// promises, it is OneAnswer alone that holds that promise.
 ghost use Rattle.std.specs.Prelude.{◌≡◌};
 ghost use Rattle.meaning.specs.Wire.{order_from, kind_from};
 
-use crate::{Fault, MessageType, Order, Refusal};
+use crate::{Fault, MessageType, Order, Place, Refusal};
 
 impl TryFrom<u8> for Order {
     type Error = Refusal;
@@ -14,7 +15,10 @@ impl TryFrom<u8> for Order {
         match mark {
             b'l' => Ok(Order::Little),
             b'B' => Ok(Order::Big),
-            _ => Err(crate::refuse(Fault::InvalidByteOrder, 0)),
+            _ => Err(Refusal {
+                fault: Fault::InvalidByteOrder,
+                place: Place(0),
+            }),
         }
     }
 }
@@ -30,7 +34,10 @@ impl TryFrom<u8> for MessageType {
             2 => Ok(MessageType::Reply),
             3 => Ok(MessageType::Error),
             4 => Ok(MessageType::Signal),
-            _ => Err(crate::refuse(Fault::InvalidMessageType, 0)),
+            _ => Err(Refusal {
+                fault: Fault::InvalidMessageType,
+                place: Place(0),
+            }),
         }
     }
 }

@@ -4,7 +4,6 @@ use native.Mathlib.Omega.{arith}
 use mathlib.Core.Bool.{Bool, true, false}
 use mathlib.Core.List.{List}
 use mathlib.Core.Path.{◌≡◌, refl, ap, sym, subst, ◌∙◌}
-use lib.Seq.{length-take-le}
 use lib.ListN.{length, take, drop, get_or}
 use lib.Dec.{T}
 use Rattle.meaning.specs.declared.Order.{Order}
@@ -162,7 +161,7 @@ module _ (b : List ℕ) where
       pub table-over : (y : Refusal) → length b - 16 < n → y ≡ refusal NotEnoughBytes 0 → Err y ≡ read_header b
       table-over y l e = over g.head g.begins n long told y (omega arith) e
 
-      module _ (fits : n ≤ length b - 16) (q : Result Fields Refusal) (answers : q ≡ table_to start.order 16 (fields_r start.order start.kind (length (take (16 + n) b) - 16) (take (16 + n) b) 16)) where
+      module _ (fits : n ≤ length b - 16) (q : Result Fields Refusal) (answers : q ≡ table_to start.order 16 (fields_r start.order start.kind (16 + n - 16) (take (16 + n) b) 16)) where
         enough : 16 + n ≤ length b
         enough = omega arith
 
@@ -171,8 +170,7 @@ module _ (b : List ℕ) where
 
         are : q ≡ table_to g.head.0.order 16 result
         are =
-            let lent = length-take-le (16 + n) b enough in
-            let z : length (take (16 + n) b) - 16 ≡ n = omega (arith, lent) in
+            let z : 16 + n - 16 ≡ n = omega arith in
             answers ∙ ap (λ (m : ℕ). table_to start.order 16 (fields_r start.order start.kind m (take (16 + n) b) 16)) z
             ∙ ap (λ (x : Start). table_to x.order 16 (fields_r x.order x.kind n (take (16 + n) b) 16)) g.starts
 

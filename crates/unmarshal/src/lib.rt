@@ -25,7 +25,7 @@ pub fn unmarshal_header(buf: &[u8]) -> Result<Header, Refusal>
     }
     let end = 16 + len;
     // No `map_err(..)?`: of what its closure gives no answer can speak, so the proof did not close.
-    match header_fields::unmarshal_header_fields(start.order, start.kind, &buf[..end], 16) {
+    match header_fields::unmarshal_header_fields(start.order, start.kind, buf, end, 16) {
         Ok(fields) => body::unmarshal_next_message(start, fields, buf, end),
         Err(refusal) => Err(meaning::moved(refusal, 0)),
     }

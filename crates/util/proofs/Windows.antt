@@ -4,7 +4,7 @@ use native.Mathlib.Omega.{arith}
 use mathlib.Core.List.{List}
 use mathlib.Core.Path.{◌≡◌, refl, ap, sym, subst, ◌∙◌}
 use lib.ListN.{length, take, drop, take-append-drop}
-use lib.Seq.{length-take-le}
+use lib.Seq.{length-take-le, take_all}
 use Rattle.meaning.specs.Reader.{Res, got, fault, R, reached_of}
 use Rattle.meaning.specs.ReadValue.{check_at, checked_of, no}
 use Rattle.meaning.specs.declared.Fault.TheVariants.{BadOffset}
@@ -20,6 +20,16 @@ seen b end off n h l =
     let e : length (take end b) ≡ end = length-take-le end b l in
     let k : off + n ≤ length (take end b) = rw e h in
     sym (subst (λ (s : List ℕ). take n (drop off s) ≡ take n (drop off (take end b))) (take-append-drop end b) (take_part n off (take end b) (drop end b) k))
+
+-- A front of a buffer that is no shorter than it is all of it. An entry point's proof asks no more of the code than that its reader is handed such a
+-- front; so where a wrong program cuts the buffer short, the check says at which lengths.
+pub front-is : (s b : List ℕ) → length b ≤ length s → s ≡ take (length s) b → s ≡ b
+front-is s b long front = front ∙ take_all (length s) b long
+
+-- a reader that was handed such a front has read the buffer
+pub front-read : {A : Type 0} (r : R A) (s b : List ℕ) (off : ℕ) (q : Result Place Refusal) → q ≡ reached_of (r s off)
+    → length b ≤ length s → s ≡ take (length s) b → q ≡ reached_of (r b off)
+front-read r s b off q e long front = e ∙ ap (λ (x : List ℕ). reached_of (r x off)) (front-is s b long front)
 
 -- a reader that gets somewhere gets to a place between its start and the end of what it sees
 pub reached-within : {A : Type 0} (r : R A) → Bounded r → (b : List ℕ) (off : ℕ) (p : Place) → off ≤ length b

@@ -2,8 +2,8 @@
 use Prim.Native.Nat.{ℕ, ◌-◌, ◌≤◌, ◌<◌}
 use native.Mathlib.Omega.{arith}
 use mathlib.Core.List.{List, [], ◌∷◌}
-use mathlib.Core.Path.{◌≡◌, refl, ap, sym, ◌∙◌}
-use lib.ListN.{length}
+use mathlib.Core.Path.{◌≡◌, refl, ap, sym, subst, ◌∙◌}
+use lib.ListN.{length, take}
 use Rattle.meaning.specs.declared.Order.{Order}
 use Rattle.meaning.specs.declared.Refusal.{Refusal}
 use Rattle.meaning.specs.declared.Fault.TheVariants.{BadOffset, BadArgument}
@@ -18,6 +18,7 @@ use Rattle.meaning.proofs.Local.{leb-false}
 use Rattle.meaning.proofs.PlaceLaws.{whole-type}
 use Rattle.meaning.proofs.ValueLocal.{read_top-local}
 use Rattle.meaning.proofs.ValueDemands.{check_value-is}
+use Rattle.util.proofs.Windows.{front-is}
 use Rattle.validate_raw.specs.declared.walk.Spot.{Spot}
 use Rattle.validate_raw.specs.Walk.{walked_of}
 use Rattle.validate_raw.proofs.walk.WalkLaws.{past-inv, stopped-inv}
@@ -59,8 +60,16 @@ module _ (o : Order) (s b : List ℕ) (off : ℕ) (x : Refusal) where
   unfolding check_value check_at
   beyond i h e = rw (i.only, check_value, leb-false off (length b) h, check_at, e)
 
-module _ (o : Order) (s b : List ℕ) (off : ℕ) (i : Single s) (h : off ≤ length b) (q : Result Spot Refusal)
-    (answers : (t : Ty) (e : ℕ) → TypeAt t s 0 e → q ≡ walked_of e (read o (read_var o 16) t b off)) where
+-- what the walk answers of a type at the front of the signature
+abbrev pub Answers : Order → List ℕ → List ℕ → ℕ → Result Spot Refusal → Type 0
+Answers o s b off q = (t : Ty) (e : ℕ) → TypeAt t s 0 e → q ≡ walked_of e (read o (read_var o 16) t b off)
+
+-- a walk that was handed a front of the buffer which is no shorter walked over the buffer
+pub front-walked : (o : Order) (s seen b : List ℕ) (off : ℕ) (q : Result Spot Refusal) → Answers o s seen off q
+    → length b ≤ length seen → seen ≡ take (length seen) b → Answers o s b off q
+front-walked o s seen b off q answers long front = subst (λ (x : List ℕ). Answers o s x off q) (front-is seen b long front) answers
+
+module _ (o : Order) (s b : List ℕ) (off : ℕ) (i : Single s) (h : off ≤ length b) (q : Result Spot Refusal) (answers : Answers o s b off q) where
   answered : q ≡ walked_of (length s) (read_top o i.ty b off)
   unfolding read_top
   answered = answers i.ty (length s) i.stands

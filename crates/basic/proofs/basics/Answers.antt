@@ -32,14 +32,17 @@ loop-past-preserved c =
     let m = moved (base_r c.args.order b.of) (base_r-local _ b.of) (base-grows _ b.of) _ _ _ _ loop.1 (c.base.ensures b.of b.is) c.in_ok-past.was in (
       omega arith,
       m.1,
-      λ b e. turned (base_r _ b) (base_r-local _ b) (base-grows _ b) _ _ _ _ _ _ (loop.2 b e) c.loop-past-test.true (c.base.ensures b e) c.in_ok-past.was,
+      λ b e. turned (base_r _ b) (base_r-local _ b) (base-grows _ b) _ _ _ _ _ _ (loop.2 b e) (omega (arith, c.loop-past-test.true)) (c.base.ensures b e) c.in_ok-past.was,
     )
 
 pub returns-in_err-past : goal.returns-in_err-past
 returns-in_err-past c = λ b e.
     handed-on _ _ c.from_residual.ensures
-    ∙ refused (base_r _ b) (base_r-local _ b) (base-grows _ b) _ _ _ _ _ _ (c.loop-past.invariant.2 b e) c.loop-past-test.true (c.base.ensures b e)
+    ∙ refused (base_r _ b) (base_r-local _ b) (base-grows _ b) _ _ _ _ _ _ (c.loop-past.invariant.2 b e) (omega (arith, c.loop-past-test.true)) (c.base.ensures b e)
     c.in_err-past.was
 
 pub returns : goal.returns
-returns c = λ b e. ended (base_r _ b) (base_r-local _ b) (base-grows _ b) _ _ _ _ (c.loop-past.invariant.2 b e) c.loop-past-test.false
+returns c = λ b e.
+    let loop = c.loop-past.invariant in
+    let shut = c.loop-past-test.false in
+    ended (base_r _ b) (base_r-local _ b) (base-grows _ b) _ _ _ _ _ (loop.2 b e) (omega (arith, shut)) (omega (arith, loop.1, shut))

@@ -1,5 +1,6 @@
 -- In each arm the code is that of one type, whose value it makes; the last arm is left with the only code that no other arm took.
 use Prim.Native.Nat.{ℕ}
+use native.Mathlib.Omega.{arith}
 use mathlib.Core.Path.{refl, ap, ◌∙◌}
 use mir.Syntax.{w16, w32, w64}
 use mir.Facts.{to_z-of_z}
@@ -42,7 +43,10 @@ returns-in-117 c = told (Of c.args.bits) _ u32 _ c.in-117.is refl
 
 pub returns-in-120 : goal.returns-in-120
 unfolding fixed_value
-returns-in-120 c = told (Of c.args.bits) _ i64 _ c.in-120.is (ap Int64 (to_z-of_z {w = w64} (sfits_of {w = w64} c.cast_signed-in-120.type_inv) ∙ c.cast_signed-in-120.ensures ∙ read_signed w64 _))
+returns-in-120 c =
+    let read = c.cast_signed-in-120.ensures ∙ read_signed w64 _ in
+    let same = ap (fixed_value i64) (omega arith) in
+    told (Of c.args.bits) _ i64 _ c.in-120.is (ap Int64 (to_z-of_z {w = w64} (sfits_of {w = w64} c.cast_signed-in-120.type_inv) ∙ read) ∙ same)
 
 pub returns-in-116 : goal.returns-in-116
 unfolding fixed_value

@@ -1,7 +1,9 @@
 -- The number of types decides first, then the offset, then the walk.
+use native.Mathlib.Omega.{arith}
 use mathlib.Core.Path.{sym, ◌∙◌, ap}
+use lib.Seq.{take_all}
 use Rattle.meaning.proofs.Passing.{handed-on}
-use Rattle.validate_raw.proofs.EntryLaws.{single, one_type, other-count, beyond, value-past, value-stop}
+use Rattle.validate_raw.proofs.EntryLaws.{front-walked, single, one_type, other-count, beyond, value-past, value-stop}
 use Rattle.validate_raw.proofs.validate_marshalled.Goals as goal
 
 pub returns-then-types-ne1 : goal.returns-then-types-ne1
@@ -19,14 +21,20 @@ returns-then-buf-off c =
 pub returns-in_err-past : goal.returns-in_err-past
 returns-in_err-past c =
     let one = single _ (rw (sym c.parse_description.ensures, sym c.unwrap_or-types.ensures) c.if-types-ne1.false) in
-    handed-on _ _ c.from_residual.ensures ∙ value-stop _ _ _ _ one c.if-buf-off.false _ c.value.ensures _ c.in_err-past.was
+    let walked = front-walked _ _ _ c.args.buf.now c.args.offset.0 _ c.value.ensures
+    (omega arith) (grind (arith, take_all)) in
+    handed-on _ _ c.from_residual.ensures ∙ value-stop _ _ _ _ one c.if-buf-off.false _ walked _ c.in_err-past.was
 
 pub overflow_sub-result : goal.overflow_sub-result
 overflow_sub-result c =
     let one = single _ (rw (sym c.parse_description.ensures, sym c.unwrap_or-types.ensures) c.if-types-ne1.false) in
-    (value-past _ _ c.args.buf.now _ one c.if-buf-off.false _ c.value.ensures _ c.in_ok-past.was).0
+    let walked = front-walked _ _ _ c.args.buf.now c.args.offset.0 _ c.value.ensures
+    (omega arith) (grind (arith, take_all)) in
+    (value-past _ _ c.args.buf.now _ one c.if-buf-off.false _ walked _ c.in_ok-past.was).0
 
 pub returns : goal.returns
 returns c =
     let one = single _ (rw (sym c.parse_description.ensures, sym c.unwrap_or-types.ensures) c.if-types-ne1.false) in
-    (value-past _ _ c.args.buf.now _ one c.if-buf-off.false _ c.value.ensures _ c.in_ok-past.was).1
+    let walked = front-walked _ _ _ c.args.buf.now c.args.offset.0 _ c.value.ensures
+    (omega arith) (grind (arith, take_all)) in
+    (value-past _ _ c.args.buf.now _ one c.if-buf-off.false _ walked _ c.in_ok-past.was).1

@@ -34,6 +34,7 @@ use Rattle.validate_raw.specs.FirstBytes.{whole_code, composite, element_align}
 use Rattle.validate_raw.specs.Items.{Item, single, pair, item_of, align_item, whole_item}
 use Rattle.validate_raw.specs.Walk.{walked_of, walked_to, entry_r, Held, item_r, after, fields_to}
 use Rattle.validate_raw.proofs.array_head.ArrayLaws.{inside-inv, inside-after}
+use Rattle.util.proofs.Windows.{front-is}
 use Rattle.basic.specs.Basic.{BaseCode}
 use Rattle.validate_raw.proofs.first_bytes.ItemLaws.{is-single}
 use Rattle.validate_raw.proofs.first_bytes.ElementLaws.{basic, element-align, Tested, singly, together, tested}
@@ -89,6 +90,15 @@ module _ (o : Order) (n : ℕ) (s b : List ℕ) (i p : ℕ) (q : Result Place Re
       let y = is_base_lem ty z.0 z.1 z.2 z.3 in
       elements-basic o (read_var o n) b l p t y.of (i + 1) m q y.is y.ends (h y.of y.byte)
 
+-- what the reader of basic values answers of those that fill what it was handed
+abbrev pub Basics : Order → ℕ → List ℕ → ℕ → Result Place Refusal → Type 0
+Basics o k b p q = (c : Base) → k ≡ code c → q ≡ reached_of (many (length b - p) (base_r o c) b p)
+
+-- where that is a front of the buffer which is no shorter, it read the buffer
+pub front-basics : (o : Order) (k : ℕ) (seen b : List ℕ) (p : ℕ) (q : Result Place Refusal) → Basics o k seen p q
+    → length b ≤ length seen → seen ≡ take (length seen) b → Basics o k b p q
+front-basics o k seen b p q answers long front = subst (λ (x : List ℕ). Basics o k x p q) (front-is seen b long front) answers
+
 -- some basic type's code stands there
 pub base-code : {s : List ℕ} {i : ℕ} → Typed s i → composite (get_or s i 0) ≡ false → BaseCode (get_or s i 0)
 base-code y k =
@@ -141,9 +151,9 @@ module _ (o : Order) (n : ℕ) (i : Item) (buf : List ℕ) (m first : ℕ) (e : 
         ap (walked_to e) (refused reader (item-local o n i) (item-grows o n i) buf m first p (Err x) x w h (sym z) refl)
         ∙ walked_to_lem e (many m reader buf first)
 
-    pub items-ended : (z : ℕ) → length buf ≤ p → z ≡ e → Ok (record { sig = record { 0 = z }; buf = record { 0 = p } }) ≡ answer
-    items-ended z h k =
-        rw k (ap (walked_to e) (ended reader (item-local o n i) (item-grows o n i) buf m first p w h) ∙ walked_to_lem e (many m reader buf first))
+    pub items-ended : (z y : ℕ) → length buf ≤ p → z ≡ e → y ≡ p → Ok (record { sig = record { 0 = z }; buf = record { 0 = y } }) ≡ answer
+    items-ended z y h k l =
+        rw k (ap (walked_to e) (ended reader (item-local o n i) (item-grows o n i) buf m first p y w h l) ∙ walked_to_lem e (many m reader buf first))
 
   pub items-none : (z : ℕ) → m ≡ length buf - first → first ≡ length buf → z ≡ e → Ok (record { sig = record { 0 = z }; buf = record { 0 = first } }) ≡ answer
   items-none z h k l = rw l (sym (ap (walked_of e) (many-end m reader buf first (omega arith))))

@@ -4,7 +4,7 @@ use native.Mathlib.Omega.{arith}
 use native.Mathlib.Nat.{pos_of_ne-zero}
 use mathlib.Core.Path.{refl, sym, subst, ◌∙◌}
 use lib.ListN.{length}
-use lib.Seq.{length-take-le}
+use lib.Seq.{length-take-le, take_all}
 use lib.Dec.{T}
 use Rattle.meaning.specs.declared.Order.TheVariants.{Little}
 use Rattle.meaning.specs.Places.{list_of}
@@ -24,7 +24,7 @@ use Rattle.validate_raw.proofs.first_bytes.ItemLaws.{items_at, items-typed, item
 use Rattle.validate_raw.specs.Walk.{item_r}
 use Rattle.validate_raw.proofs.walk.WalkLaws.{goes-past, goes-no, past_next, items-read, variant-deep, variant_shut, variant-past, variant-stop}
 use Rattle.validate_raw.proofs.walk.CycleLaws.{variant-falls, part-fits, item-local, item-grows, value-moved, walk-moved}
-use Rattle.validate_raw.proofs.walk.CycleLaws.{base-walks, variant-walks, basics-walk, base-code, single-walks}
+use Rattle.validate_raw.proofs.walk.CycleLaws.{base-walks, variant-walks, front-basics, basics-walk, base-code, single-walks}
 use Rattle.validate_raw.proofs.walk.CycleLaws.{items-turned, items_refused, items-ended, items-none, struct-stop, struct_fields}
 use Rattle.validate_raw.proofs.walk.CycleLaws.{rest-start, rest-close, rest_typed, rest-past, rest-stop}
 use Rattle.validate_raw.proofs.walk.CycleLaws.{opened-within, array-shut, array-elements, array_plain, array-ragged, entry-stop, entry_key, entry_past, entry_value}
@@ -215,7 +215,7 @@ composites-loop-past-preserved t c =
       m.1,
       λ u e h.
           let x = items-turned a.order a.left.levels (item_of u) a.buf.now (length a.buf.now - a.at.buf.0) a.at.buf.0 e
-          _ (c-loop.invariant.2 u e h).0 _ _ c-loop-test.true (c-element.ensures u e h) c.in_ok-past.was in
+          _ (c-loop.invariant.2 u e h).0 _ _ (omega (arith, c-loop-test.true)) (c-element.ensures u e h) c.in_ok-past.was in
           (x.0, λ z. x.1),
     )
 
@@ -227,7 +227,7 @@ composites-returns-in_err-past t c =
     let c-loop-test = c.loop-past-test in
     let c-element = c.element in
     λ u e h. handed-on _ _ c.from_residual.ensures ∙ items_refused a.order a.left.levels (item_of u) a.buf.now (length a.buf.now - a.at.buf.0) a.at.buf.0 e
-    _ (c-loop.invariant.2 u e h).0 _ _ c-loop-test.true (c-element.ensures u e h) c.in_err-past.was
+    _ (c-loop.invariant.2 u e h).0 _ _ (omega (arith, c-loop-test.true)) (c-element.ensures u e h) c.in_err-past.was
 
 pub composites-returns : goal.composites-returns
 composites-returns t c =
@@ -237,8 +237,9 @@ composites-returns t c =
     let c-loop-test = c.loop-past-test in
     let c-if1 = c.if-first-buf in
     λ u e h. items-ended a.order a.left.levels (item_of u) a.buf.now (length a.buf.now - a.at.buf.0) a.at.buf.0 e
-    _ (c-loop.invariant.2 u e h).0 _ c-loop-test.false
+    _ (c-loop.invariant.2 u e h).0 _ _ (omega (arith, c-loop-test.false))
     ((c-loop.invariant.2 u e h).1 (λ z. c-if1.false (omega (arith, z, c-loop.invariant.1, c-loop-test.false, c-pre.inside))))
+    (omega (arith, c-loop.invariant.1, c-loop-test.false))
 
 pub element-bounds-sig-i : goal.element-bounds-sig-i
 element-bounds-sig-i t c = start c.requires.typed
@@ -277,7 +278,7 @@ elements-basics-requires t c =
     let c-pre = c.requires in
     let c-is-composite = c.is_composite in
     let c-if1 = c.if-is_composite in
-    record { base_code = base-code c-pre.typed (sym c-is-composite.ensures ∙ c-if1.false); inside = c-pre.inside }
+    record { base_code = base-code c-pre.typed (sym c-is-composite.ensures ∙ c-if1.false); inside = omega (arith, c-pre.inside) }
 
 pub elements-overflow_add-result : goal.elements-overflow_add-result
 elements-overflow_add-result t c = omega (arith, start c.requires.typed)
@@ -293,7 +294,9 @@ elements-returns-in_ok-past t c =
     let c-basics = c.basics in
     let other = sym c-is-composite.ensures ∙ c-if1.false in
     let first = a.at.buf.0 in
-    let walks = basics-walk a.order a.left.levels a.sig.now a.buf.now a.at.sig.0 first _ (length a.buf.now - first) other c-basics.ensures in
+    let read = front-basics a.order _ _ a.buf.now first _ c-basics.ensures
+    (omega arith) (grind (arith, take_all)) in
+    let walks = basics-walk a.order a.left.levels a.sig.now a.buf.now a.at.sig.0 first _ (length a.buf.now - first) other read in
     λ u e h. goes-past _ _ _ c.in_ok-past.was ∙ walks u e h
 
 pub elements-returns-in_err-past : goal.elements-returns-in_err-past
@@ -304,7 +307,9 @@ elements-returns-in_err-past t c =
     let c-basics = c.basics in
     let other = sym c-is-composite.ensures ∙ c-if1.false in
     let first = a.at.buf.0 in
-    let walks = basics-walk a.order a.left.levels a.sig.now a.buf.now a.at.sig.0 first _ (length a.buf.now - first) other c-basics.ensures in
+    let read = front-basics a.order _ _ a.buf.now first _ c-basics.ensures
+    (omega arith) (grind (arith, take_all)) in
+    let walks = basics-walk a.order a.left.levels a.sig.now a.buf.now a.at.sig.0 first _ (length a.buf.now - first) other read in
     λ u e h. handed-on _ _ c.from_residual.ensures ∙ goes-no _ _ _ c.in_err-past.was ∙ walks u e h
 
 pub entry-overflow_add-key : goal.entry-overflow_add-key
